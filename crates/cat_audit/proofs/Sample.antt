@@ -1,6 +1,6 @@
 -- A program with a plain scope, written out: x is 1 where the input n is true, and 2 where it isn't.
 use Rattle.std.proofs.Common.{◌≡◌, ℕ, zero, suc, pos, IsTrue, List, [], ◌∷◌, None, Some, refl, sym, subst}
-use Rattle.std.proofs.Common.{true, rules, true≢false, arith}
+use Rattle.std.proofs.Common.{rules, true≢false, arith}
 use Rattle.cat_num.specs.Whole.{fits}
 use Rattle.cat_order.specs.Computed.{order_of}
 use Rattle.cat_order.specs.Order.{IsOrder, dependencies_of, is_listed, is_ready}

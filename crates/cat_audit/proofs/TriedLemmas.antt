@@ -17,6 +17,7 @@ use Rattle.cat_search.specs.declared.bad.Flaw.TheVariants.{Conflict}
 use Rattle.cat_search.specs.Searched.{everything}
 use Rattle.cat_search.specs.declared.way.Answer.{Answer}
 use Rattle.cat_search.specs.Ways.{led_to, passed, way_from}
+use Rattle.cat_audit_sound.proofs.Exported.{drop_at}
 use Rattle.cat_audit.specs.declared.finding.Finding.{Finding}
 use Rattle.cat_audit.specs.declared.finding.Finding.TheVariants as finding
 use Rattle.cat_audit.specs.Findings.{finding_in}
@@ -126,13 +127,6 @@ pub leads_there : (table : Table) (nodes : List TreeNode) (b : BadLeaf) (way : L
 leads_there table nodes b way region here leads = leads ∙ ap (led_to table.atoms (everything table.terms)) here
 
 -- ---- the leaves that are left
-
-drop_at : {A : Type 0} (xs : List A) (i : ℕ) (x : A) → slice_get xs i ≡ Some x → drop i xs ≡ x ∷ drop (i + 1) xs
-drop_at [] i x is = absurd (cc)
-drop_at (y ∷ ys) zero x is = grind arith
-drop_at (y ∷ ys) (suc i) x is =
-    let next : suc i + 1 ≡ suc (i + 1) = omega arith in
-    subst (λ (j : ℕ). drop i ys ≡ x ∷ drop j (y ∷ ys)) (sym next) (drop_at ys i x is)
 
 -- the leaf of an index
 abbrev pub item : List BadLeaf → ℕ → BadLeaf

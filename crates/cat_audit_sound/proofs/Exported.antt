@@ -10,3 +10,4 @@ unfoldable pub use Rattle.cat_audit_sound.proofs.TableGroups.{IsAt}
 pub use Rattle.cat_audit_sound.proofs.TableGroups.{defs_at, same_def, place_is, group_there, no_group, above_are}
 pub use Rattle.cat_audit_sound.proofs.TableGroups.{as_many, no_cycle}
 pub use Rattle.cat_audit_sound.proofs.AuditLaws.{body_is}
+pub use Rattle.cat_audit_sound.proofs.TypedLaws.{drop_at}

@@ -42,7 +42,7 @@ row_at {A} {B} R xs ys i x rows at = record {
   found (Some z) y row stands = subst (R x) (ap (λ (o : Option B). unwrap_or o z) stands) row
 
 -- the names of some things have the numbers of the things
-numbers_map : {A : Type 0} (name_of : A → List ℕ) (w : List ℕ) (n : ℕ) (xs : List A)
+pub numbers_map : {A : Type 0} (name_of : A → List ℕ) (w : List ℕ) (n : ℕ) (xs : List A)
     → option_map (λ x. x.0) (find (λ (x : ℕ × List ℕ). bytes_eq x.1 w) (enumerate_from n (map name_of xs)))
     ≡ option_map (λ x. x.0) (find (λ (x : ℕ × A). bytes_eq (name_of x.1) w) (enumerate_from n xs))
 numbers_map name_of w n [] = refl

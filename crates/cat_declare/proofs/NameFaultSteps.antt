@@ -5,7 +5,7 @@ use Rattle.cat_scope.specs.Names.{IsOneOf}
 use Rattle.cat_tree.specs.declared.program.Item.{Item}
 use Rattle.cat_tree.specs.declared.program.Item.TheVariants as item
 use Rattle.cat_tree.specs.declared.program.Tree.{Tree}
-use Rattle.cat_names.proofs.Exported.{in_front, behind}
+use Rattle.cat_names.proofs.Exported.{behind, in_front, split}
 use Rattle.cat_names.specs.declared.fault.Fault.{Fault}
 use Rattle.cat_names.specs.Limits.{most_definitions}
 use Rattle.cat_names.specs.Found.{faults_of}
@@ -22,17 +22,8 @@ use Rattle.cat_declare.proofs.DeclaredFaults.{declared_faults}
 abbrev pub AreAmong : List Fault → List Fault → Type 0
 AreAmong xs ys = (f : Fault) → IsOneOf f xs → IsOneOf f ys
 
-of_two : (f : Fault) (xs ys : List Fault) → IsOneOf f (xs ++ ys) → IsOneOf f xs ⊎ IsOneOf f ys
-of_two f [] ys h = inr h
-of_two f (x ∷ xs) ys (inl is) = inl (inl is)
-of_two f (x ∷ xs) ys (inr h) = by (of_two f xs ys h)
-  where
-    by : IsOneOf f xs ⊎ IsOneOf f ys → IsOneOf f (x ∷ xs) ⊎ IsOneOf f ys
-    by (inl g) = inl (inr g)
-    by (inr g) = inr g
-
 joined_among : (xs ys zs : List Fault) → AreAmong xs zs → AreAmong ys zs → AreAmong (xs ++ ys) zs
-joined_among xs ys zs left right f h = by (of_two f xs ys h)
+joined_among xs ys zs left right f h = by (split f xs ys h)
   where
     by : IsOneOf f xs ⊎ IsOneOf f ys → IsOneOf f zs
     by (inl g) = left f g

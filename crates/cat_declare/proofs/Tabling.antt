@@ -1,33 +1,15 @@
 -- Tables of declarations are tables of their names.
-use Rattle.std.proofs.Common.{◌≡◌, ◌∙◌, ℕ, ◌+◌, ◌≤◌, Bool, true, false, cond, List, [], ◌∷◌, length, map, Option, Some}
-use Rattle.std.proofs.Common.{option_map, bytes_eq, find, refl, sym, ap, subst, arith}
-use Rattle.std.specs.List.{enumerate_from}
+use Rattle.std.proofs.Common.{◌≡◌, ◌∙◌, ◌+◌, ◌≤◌, List, [], ◌∷◌, length, map}
+use Rattle.std.proofs.Common.{refl, sym, ap, subst, arith}
 use Rattle.std.proofs.lemmas.List.{length-map}
 use Rattle.cat_tree.specs.declared.name.Name.{Name}
 use Rattle.cat_tree.specs.declared.program.Item.{Item}
 use Rattle.cat_tree.specs.declared.program.Item.TheVariants as item
 use Rattle.cat_check_names.specs.Table.{Table, IsTableOf}
+use Rattle.cat_check_names.proofs.Rows.{numbers_map}
 use Rattle.cat_names.specs.Written.{texts, names_of, structures_in, enumerations_in, scopes_in}
 use Rattle.cat_declare.specs.declared.written.Declaration.{Declaration}
 use Rattle.cat_declare.specs.inside.Writings.{as_pair}
-
--- the names of some things have the numbers of the things
-numbers_map : {A : Type 0} (name_of : A → List ℕ) (w : List ℕ) (n : ℕ) (xs : List A)
-    → option_map (λ x. x.0) (find (λ (x : ℕ × List ℕ). bytes_eq x.1 w) (enumerate_from n (map name_of xs)))
-    ≡ option_map (λ x. x.0) (find (λ (x : ℕ × A). bytes_eq (name_of x.1) w) (enumerate_from n xs))
-numbers_map name_of w n [] = refl
-numbers_map {A} name_of w n (x ∷ xs) = by (bytes_eq (name_of x) w) (numbers_map name_of w (n + 1) xs) where
-  names : Option (ℕ × List ℕ)
-  names = find (λ (y : ℕ × List ℕ). bytes_eq y.1 w) (enumerate_from (n + 1) (map name_of xs))
-
-  things : Option (ℕ × A)
-  things = find (λ (y : ℕ × A). bytes_eq (name_of y.1) w) (enumerate_from (n + 1) xs)
-
-  by : (b : Bool) → option_map (λ y. y.0) names ≡ option_map (λ y. y.0) things
-      → option_map {T = ℕ × List ℕ} (λ y. y.0) (cond b (Some (n, name_of x)) names)
-      ≡ option_map {T = ℕ × A} (λ y. y.0) (cond b (Some (n, x)) things)
-  by true rest = refl
-  by false rest = rest
 
 names_are : {T : Type 0} (ds : List (Declaration T)) → map (λ d. d.name.now.text) ds ≡ texts (names_of (map as_pair ds))
 names_are [] = refl

@@ -13,6 +13,7 @@ use Rattle.cat_tree.specs.declared.program.Tree.{Tree}
 use Rattle.cat_scope.specs.declared.defs.Body.{Body}
 use Rattle.cat_scope.specs.Names.{IsOneOf}
 use Rattle.cat_scope.specs.Orders.{function_calls, scope_dependencies}
+use Rattle.cat_search.proofs.Exported.{one_of_two}
 use Rattle.cat_names.specs.declared.fault.Fault.{Fault}
 use Rattle.cat_names.specs.declared.fault.Fault.TheVariants as fault
 use Rattle.cat_names.specs.Found.{Found, Stands, faults_of, fault_if}
@@ -53,15 +54,6 @@ one_right : {A : Type 0} (x : A) (xs ys : List A) → IsOneOf x ys → IsOneOf x
 one_right x [] ys h = h
 one_right x (y ∷ xs) ys h = inr (one_right x xs ys h)
 
-one_apart : {A : Type 0} (x : A) (xs ys : List A) → IsOneOf x (xs ++ ys) → IsOneOf x xs ⊎ IsOneOf x ys
-one_apart x [] ys h = inr h
-one_apart x (y ∷ xs) ys (inl same) = inl (inl same)
-one_apart x (y ∷ xs) ys (inr h) = more (one_apart x xs ys h)
-  where
-    more : IsOneOf x xs ⊎ IsOneOf x ys → IsOneOf x (y ∷ xs) ⊎ IsOneOf x ys
-    more (inl here) = inl (inr here)
-    more (inr there) = inr there
-
 pub one_mapped : {A B : Type 0} (f : A → B) (x : A) (xs : List A) → IsOneOf x xs → IsOneOf (f x) (map f xs)
 one_mapped f x [] h = absurd h
 one_mapped f x (y ∷ xs) (inl same) = inl (ap f same)
@@ -76,7 +68,7 @@ one_passing f passes x (y ∷ xs) h = by (passes y) h (one_passing f passes x xs
     by : (b : Bool) → IsOneOf x (flat_map f (cond b (y ∷ filter passes xs) (filter passes xs)))
         → (IsOneOf x (flat_map f (filter passes xs)) → IsOneOf x (flat_map f xs)) → IsOneOf x (f y ++ flat_map f xs)
     by true there more = ⊎_elim (one_left x (f y) (flat_map f xs)) (λ h. one_right x (f y) (flat_map f xs) (more h))
-        (one_apart x (f y) (flat_map f (filter passes xs)) there)
+        (one_of_two x (f y) (flat_map f (filter passes xs)) there)
     by false there more = one_right x (f y) (flat_map f xs) (more there)
 
 -- ---- where items stand
@@ -133,7 +125,7 @@ functions_there (scope ∷ scopes) (body ∷ bodies) f h =
     let here = map (λ i. i.pos) scope.items in
     ⊎_elim (λ one. one_left (place f) here (item_places scopes) (past_there deps 0 here f one))
     (λ more. one_right (place f) here (item_places scopes) (functions_there scopes bodies f more))
-    (one_apart f (past_chains deps here) (past_functions scopes bodies) h)
+    (one_of_two f (past_chains deps here) (past_functions scopes bodies) h)
 
 -- ---- declarations of a tree
 
@@ -230,7 +222,7 @@ module _ (size : Pos → ℕ) (t : Tree) where
 
   chain_there : (ds : Decls) (bodies : List Body) (f : Fault) → IsOneOf f (chain_faults t ds bodies)
       → IsOneOf (place f) (late_places ds)
-  chain_there ds bodies f h = by (one_apart f (past_functions ds.scopes bodies)
+  chain_there ds bodies f h = by (one_of_two f (past_functions ds.scopes bodies)
       (past_chains (scope_dependencies ds.scopes bodies) (positions (names_of (scopes_in t.items)))) h)
     where
       by : IsOneOf f (past_functions ds.scopes bodies)

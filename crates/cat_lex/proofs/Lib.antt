@@ -10,6 +10,7 @@ pub mod Lengths
 pub mod Named
 pub mod MarkForms
 pub mod Characters
+pub mod WordBytes
 pub mod WordForms
 pub mod PairForms
 pub mod WordSound

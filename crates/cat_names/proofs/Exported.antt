@@ -13,6 +13,7 @@ pub use Rattle.cat_names.proofs.UnknownEquations.{unknown_ScopeCall, unknown_Str
 pub use Rattle.cat_names.proofs.WordEquations.{words}
 pub use Rattle.cat_names.proofs.ListLaws.{behind, in_front}
 pub use Rattle.cat_names.proofs.OkParts.{both_ok, then_ok}
+pub use Rattle.cat_names.proofs.OnlyLaws.{split}
 pub use Rattle.cat_names.proofs.KnownBodies.{item_name}
 pub use Rattle.cat_names.proofs.Steps.{beside_stands, found_stands, left_stands, left_tells}
 pub use Rattle.cat_names.proofs.Steps.{right_stands, right_tells, then_stands, then_tells}

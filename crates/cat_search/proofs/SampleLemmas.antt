@@ -13,7 +13,6 @@ use Rattle.cat_region.specs.declared.cut.Cut.TheVariants as cut
 use Rattle.cat_region.specs.declared.point.Point.{Point}
 use Rattle.cat_region.specs.declared.point.Point.TheVariants as point
 use Rattle.cat_region.specs.declared.narrowing.Narrowing.{Narrowing}
-use Rattle.cat_region.specs.declared.extent.Range.{Range}
 use Rattle.cat_region.specs.declared.extent.Extent.{Extent}
 use Rattle.cat_region.specs.declared.extent.Extent.TheVariants.{Ranks, Cases}
 use Rattle.cat_region.specs.Extents.{start, after, after_one, limit, is_under, narrowed, narrowed_range, is_none}

@@ -45,7 +45,7 @@ one_below bound a (n ∷ ns) all (inl same) =
 one_below bound a (n ∷ ns) all (inr among) =
     one_below bound a ns (both_true (nat_lt n bound) (are_below bound ns) all).1 among
 
-one_of_two : {A : Type 0} (a : A) (xs ys : List A) → IsOneOf a (xs ++ ys) → IsOneOf a xs ⊎ IsOneOf a ys
+pub one_of_two : {A : Type 0} (a : A) (xs ys : List A) → IsOneOf a (xs ++ ys) → IsOneOf a xs ⊎ IsOneOf a ys
 one_of_two a [] ys among = inr among
 one_of_two a (x ∷ xs) ys (inl same) = inl (inl same)
 one_of_two a (x ∷ xs) ys (inr among) = by (one_of_two a xs ys among)

@@ -22,7 +22,7 @@ pub use Rattle.cat_sound.proofs.TargetsListed.{in_order, one_back, one_front, ta
 pub use Rattle.cat_sound.proofs.OrderFacts.{AllIn, Ahead, Behind, ahead_as, ahead-of_IsOrder, all_once}
 pub use Rattle.cat_sound.proofs.OrderFacts.{all-of_IsOrder, behind_first}
 pub use Rattle.cat_sound.proofs.OrderFacts.{dependencies-at, dependencies-length, in_at, items_ahead, items_listed}
-pub use Rattle.cat_sound.proofs.OrderFacts.{listed_in}
+pub use Rattle.cat_sound.proofs.OrderFacts.{in_more, listed_in}
 pub use Rattle.cat_sound.proofs.OrderFacts.{moved-behind, moved_new, scopes-at, scopes-length}
 pub use Rattle.cat_sound.proofs.RunTypes.{BodyAt, body_at, called-all}
 pub use Rattle.cat_sound.proofs.ScopeRuns.{run_scoped-ends}

@@ -22,7 +22,7 @@ use Rattle.cat_sound.specs.Rests.{TellSame, CallSame}
 use Rattle.cat_sound.proofs.FormTypes.{same_number, not_true}
 use Rattle.cat_sound.proofs.TargetTypes.{all_more}
 use Rattle.cat_sound.proofs.OrderFacts.{AllIn, Behind, Ahead, moved-behind, moved_new, ahead-of_IsOrder, all-of_IsOrder}
-use Rattle.cat_sound.proofs.OrderFacts.{ahead_as, dependencies-length, dependencies-at}
+use Rattle.cat_sound.proofs.OrderFacts.{ahead_as, dependencies-length, dependencies-at, in_more}
 use Rattle.cat_sound.proofs.JudgingSame.{target_same, defs_agree}
 
 -- ---- lists without repetition
@@ -81,13 +81,6 @@ other_than m k before out there = by (nat_eq m k) refl
     by true e = absurd (true≢false (sym there ∙ ap (λ (x : ℕ). is_in x before) (sym (same_number m k e)) ∙ out))
     by false e = refl
 
-in_behind : (x y : ℕ) (ns : List ℕ) → IsTrue (is_in x ns) → IsTrue (is_in x (y ∷ ns))
-in_behind x y ns h = by (nat_eq x y)
-  where
-    by : (b : Bool) → IsTrue (if b then true else is_in x ns)
-    by true = refl
-    by false = h
-
 -- what a number needs stands behind it
 pub needs_behind : (bound : ℕ) (needs : ℕ → List ℕ) (before : List ℕ) (k : ℕ) → Behind bound needs before
     → IsTrue (is_in k before) → AllIn before (needs k)
@@ -99,10 +92,10 @@ needs_behind bound needs (m ∷ before) k behind there =
         → (IsTrue (is_in k before) → AllIn before (needs k)) → AllIn (m ∷ before) (needs k)
     by true e g rest =
         all_more (λ n. IsTrue (is_in n before)) (λ n. IsTrue (is_in n (m ∷ before))) (needs k)
-        (subst (λ (x : ℕ). AllIn before (needs x)) (sym (same_number k m e)) behind.1) (λ n h. in_behind n m before h)
+        (subst (λ (x : ℕ). AllIn before (needs x)) (sym (same_number k m e)) behind.1) (λ n h. in_more n m before h)
     by false e g rest =
         all_more (λ n. IsTrue (is_in n before)) (λ n. IsTrue (is_in n (m ∷ before))) (needs k) (rest g)
-        (λ n h. in_behind n m before h)
+        (λ n h. in_more n m before h)
 
 in_moved : (before left : List ℕ) (x : ℕ) → IsTrue (is_in x (moved before left))
     → IsTrue (is_in x before) ⊎ IsTrue (is_in x left)
@@ -117,7 +110,7 @@ in_moved before (n ∷ left) x h = either_in (in_moved (n ∷ before) left x h)
     either_in : IsTrue (is_in x (n ∷ before)) ⊎ IsTrue (is_in x left)
         → IsTrue (is_in x before) ⊎ IsTrue (is_in x (n ∷ left))
     either_in (inl g) = first_in (nat_eq x n) refl g
-    either_in (inr g) = inr (in_behind x n left g)
+    either_in (inr g) = inr (in_more x n left g)
 
 in_moved_front : (left : List ℕ) (x : ℕ) → IsTrue (is_in x (backwards left)) → IsTrue (is_in x left)
 in_moved_front left x h = which (in_moved [] left x h)
@@ -234,7 +227,7 @@ module _ (number : ℕ) (items : List ItemDecl) (body : Body) (scopes : List Sco
       → call scoped values (moved before left) f arguments ≡ call scoped values before f arguments
   many_behind values before [] differ f there arguments = refl
   many_behind values before (n ∷ left) differ f there arguments =
-      many_behind values (n ∷ before) left differ f (in_behind f n before there) arguments
+      many_behind values (n ∷ before) left differ f (in_more f n before there) arguments
       ∙ one_behind values n before f arguments (distinct_front (n ∷ before) left differ).0 there
 
   -- nor do their values
@@ -244,13 +237,13 @@ module _ (number : ℕ) (items : List ItemDecl) (body : Body) (scopes : List Sco
   values_behind bound values more [] behind same f arguments = refl
   values_behind bound values more (m ∷ before) behind same f arguments =
       let rest = λ (g : ℕ) (others : List Value). values_behind bound values more before behind.2
-      (λ k there. same k (in_behind k m before there)) g others in
+      (λ k there. same k (in_more k m before there)) g others in
       ap (λ (r : Run Value). if nat_eq m f then r else call scoped values before f arguments)
       (ap (variable_value (variable scoped m) (slice_get scoped.items m))
       (judged_as (call scoped values before) (call scoped more before) values more arguments m
       (all_more (λ n. IsTrue (is_in n before)) (Tells (call scoped values before)
       (call scoped more before) values more) (needs m) behind.1
-      (λ n there. record { value = same n (in_behind n m before there); call = λ others. rest n others }))))
+      (λ n there. record { value = same n (in_more n m before there); call = λ others. rest n others }))))
       ∙ ap (λ (r : Run Value). if nat_eq m f then variable_value (variable scoped m) (slice_get scoped.items m)
       (judging_of scoped (call scoped more before) more arguments (variable scoped m)) else r) (rest f arguments)
 

@@ -31,7 +31,7 @@ in_at P (m ∷ ns) n h there = by (nat_eq n m) refl there (in_at P ns n h.1)
     by true e g rest = subst P (sym (same_number n m e)) h.0
     by false e g rest = rest g
 
-in_more : (x y : ℕ) (ns : List ℕ) → IsTrue (is_in x ns) → IsTrue (is_in x (y ∷ ns))
+pub in_more : (x y : ℕ) (ns : List ℕ) → IsTrue (is_in x ns) → IsTrue (is_in x (y ∷ ns))
 in_more x y ns h = by (nat_eq x y)
   where
     by : (b : Bool) → IsTrue (if b then true else is_in x ns)

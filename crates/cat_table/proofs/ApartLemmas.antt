@@ -31,7 +31,7 @@ use Rattle.cat_sound.specs.Settled.{InCondition, IsHeldOf, MayStand, StandsIn}
 use Rattle.cat_sound.proofs.Exported.{Ahead, AllIn, Behind, Callee, DefEnds, DoneAt, ahead-of_IsOrder, all-of_IsOrder}
 use Rattle.cat_sound.proofs.Exported.{all_at, all_back, all_front, all_more, all_once, anything, body_at, callable}
 use Rattle.cat_sound.proofs.Exported.{called-all, function_defined, judge_target-ends, ready, same_some, scopes-at}
-use Rattle.cat_sound.proofs.Exported.{Placed, in_at, scopes-length, settled_programs, stands_end}
+use Rattle.cat_sound.proofs.Exported.{Placed, in_at, in_more, scopes-length, settled_programs, stands_end}
 use Rattle.cat_guard.proofs.Exported.{all_and, nat_self}
 use Rattle.cat_audit_sound.proofs.RunValues.{found, not_true, same_number}
 use Rattle.cat_audit_sound.proofs.StandingDefs as standing
@@ -74,13 +74,6 @@ not_here scope item inner =
 -- numbers that differ from one
 abbrev pub Differ : ℕ → List ℕ → Type 0
 Differ n ms = AllHave (λ m. nat_eq m n ≡ false) ms
-
-in_more : (x n : ℕ) (before : List ℕ) → IsTrue (is_in x before) → IsTrue (is_in x (n ∷ before))
-in_more x n before there = by (nat_eq x n)
-  where
-    by : (b : Bool) → IsTrue (if b then true else is_in x before)
-    by true = refl
-    by false = there
 
 -- what stands behind its needs has them among what stands there
 closed_behind : (bound : ℕ) (needs : ℕ → List ℕ) (before : List ℕ) → Behind bound needs before → (n : ℕ)
