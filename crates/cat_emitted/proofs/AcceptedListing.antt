@@ -21,9 +21,9 @@ use Rattle.cat_verify.specs.declared.refusal.VerifyRefusal.{VerifyRefusal}
 use Rattle.cat_verify.specs.declared.refusal.VerifyRefusal.TheVariants as verifying
 use Rattle.cat_verify.specs.Refused as unverified
 use Rattle.cat_verify.specs.WrongCode.{IsBadNumber, IsEndless}
+use Rattle.cat_verify.proofs.Exported.{numbered, ending, shaped}
 use Rattle.cat_emitted.specs.Accepted.{IsAcceptedListing}
 use Rattle.cat_emitted.specs.Emitted.{IsFairListing}
-use Rattle.cat_emitted.proofs.NotRefused.{numbered, ending, shaped}
 
 -- of lines that tell one table alone, and of texts with one image
 module _ (text : List ℕ) (files : List Text) (code : Code) (fair : IsFairListing text files code)

@@ -51,13 +51,9 @@ use Rattle.cat_emitted.specs.Spelled.{IsSpelledItem, IsSpelledScope, AreSpelledD
 use Rattle.cat_emitted.proofs.ListFacts.{apart_texts}
 use Rattle.cat_emitted.proofs.TokenNames.{lexed_fair}
 use Rattle.cat_emitted.proofs.TreeNames.{IsFairItem, tree_fair}
-use Rattle.cat_emitted.proofs.NamesApart.{all_apart}
+use Rattle.cat_emitted.proofs.NamesApart.{all_apart, none_in}
 
 -- ---- faults
-
-none_in : (xs ys : List Fault) → xs ++ ys ≡ [] → xs ≡ []
-none_in [] ys h = refl
-none_in (x ∷ xs) ys h = cc h
 
 none_behind : (xs ys : List Fault) → xs ++ ys ≡ [] → ys ≡ []
 none_behind [] ys h = h

@@ -23,10 +23,10 @@ use Rattle.cat_weave.specs.declared.segment.WeaveRefusal.TheVariants as weaving
 use Rattle.cat_weave.specs.declared.source.Source.{Source}
 use Rattle.cat_weave.specs.Gathered.{Contents, Whole, gathered}
 use Rattle.cat_scope.specs.Names.{AllHave}
-use Rattle.cat_emitted.proofs.ListFacts.{all_both}
-use Rattle.cat_emitted.proofs.WordFacts.{no_feed, both}
+use Rattle.cat_scope.proofs.Exported.{all_append}
+use Rattle.cat_emitted.proofs.WordFacts.{no_feed}
 use Rattle.cat_emitted.proofs.SourceFiles.{Includes, files_named}
-use Rattle.std.proofs.lemmas.Bool.{and_parts}
+use Rattle.std.proofs.lemmas.Bool.{and_parts, and_from}
 use Rattle.std.proofs.lemmas.Str.{is_utf8-from_IsUtf8, IsUtf8-from_is_utf8}
 use Rattle.cat_image.specs.Listed.{is_line}
 use Rattle.cat_emitted.specs.Emitted.{AreFileNames}
@@ -40,7 +40,7 @@ take_free zero text h = refl
 take_free (suc n) [] h = refl
 take_free (suc n) (b ∷ bs) h =
     let parts = and_parts (no_feed b) (list_all no_feed bs) h in
-    both (no_feed b) (list_all no_feed (take n bs)) parts.0 (take_free n bs parts.1)
+    and_from (no_feed b) (list_all no_feed (take n bs)) parts.0 (take_free n bs parts.1)
 
 drop_free : (n : ℕ) (text : List ℕ) → IsFree text → IsFree (drop n text)
 drop_free zero text h = h
@@ -76,16 +76,17 @@ front_free [] h = refl
 front_free (b ∷ []) h = refl
 front_free (b ∷ c ∷ cs) h =
     let same : length (b ∷ c ∷ cs) - 1 ≡ suc (length (c ∷ cs) - 1) = omega arith in
-    rw same (both (no_feed b) (list_all no_feed (take (length (c ∷ cs) - 1) (c ∷ cs))) h.0 (front_free (c ∷ cs) h.1))
+    rw same (and_from (no_feed b) (list_all no_feed (take (length (c ∷ cs) - 1) (c ∷ cs))) h.0
+    (front_free (c ∷ cs) h.1))
 
 whole_free : (line : List ℕ) → IsLine line → last_is 10 line ≡ false → IsFree line
 whole_free [] h e = refl
-whole_free (b ∷ []) h e = both (no_feed b) true (ap not e) refl
+whole_free (b ∷ []) h e = and_from (no_feed b) true (ap not e) refl
 whole_free (b ∷ c ∷ cs) h e =
     let same : length (b ∷ c ∷ cs) - 1 ≡ suc (length (c ∷ cs) - 1) = omega arith in
     let later : last_is 10 (c ∷ cs) ≡ false =
     subst (λ n. (slice_index (b ∷ c ∷ cs) n == 10) ≡ false) same e in
-    both (no_feed b) (list_all no_feed (c ∷ cs)) h.0 (whole_free (c ∷ cs) h.1 later)
+    and_from (no_feed b) (list_all no_feed (c ∷ cs)) h.0 (whole_free (c ∷ cs) h.1 later)
 
 last_free : (byte : ℕ) (text : List ℕ) → IsFree text → IsFree (without_last byte text)
 unfolding without_last
@@ -136,7 +137,8 @@ law_free line h u = by (is_opening line) (is_heading line) (is_include line) ref
     by true b c is = tt
     by false true c is = tt
     by false false true is =
-        both (is_utf8 (without_first_blanks (drop 11 line))) (list_all no_feed (without_first_blanks (drop 11 line)))
+        and_from (is_utf8 (without_first_blanks (drop 11 line)))
+        (list_all no_feed (without_first_blanks (drop 11 line)))
         (is_utf8-from_IsUtf8 (without_first_blanks (drop 11 line)) (include_utf8 line is u)) (path_free line h)
     by false false false is = tt
 
@@ -178,7 +180,7 @@ segments_free : (file : ℕ) (after : Bool) (n : ℕ) (lines : List Kind) → Al
 unfolding segments_from
 segments_free file after n [] h = tt
 segments_free file after n (line ∷ lines) h =
-    all_both (Includes IsName) (segment_at (line_position file n) after line lines) _
+    all_append (Includes IsName) (segment_at (line_position file n) after line lines) _
     (segment_free (line_position file n) after line lines h.0)
     (segments_free file (is_code line) (n + 1) lines h.1)
 

@@ -44,11 +44,6 @@ pub all_from : {A : Type 0} (P : A → Type 0) (xs : List A) → ((k : ℕ) (x :
 all_from P [] each = tt
 all_from P (x ∷ xs) each = (each 0 x refl, all_from P xs (λ k y at. each (suc k) y at))
 
-all_both : {A : Type 0} (P Q R : A → Type 0) → ((x : A) → P x → Q x → R x) → (xs : List A) → AllHave P xs
-    → AllHave Q xs → AllHave R xs
-all_both P Q R make [] a b = tt
-all_both P Q R make (x ∷ xs) a b = (make x a.0 b.0, all_both P Q R make xs a.1 b.1)
-
 module _ (code : Tables) (files : List Text) (spelled : AreSpelledDecls code.decls)
     (one_entry_each : length code.scopes ≡ length code.decls.scopes) where
   abbrev ds : Decls

@@ -5,7 +5,7 @@ use Rattle.std.proofs.Common.{refl, arith, decimal}
 use Rattle.std.specs.Prelude.{codes}
 use Rattle.std.specs.List.{list_all}
 use Rattle.std.specs.Str.{all_scalars, is_utf8, IsUtf8}
-use Rattle.std.proofs.lemmas.Bool.{and_parts}
+use Rattle.std.proofs.lemmas.Bool.{and_parts, and_from}
 use Rattle.std.proofs.lemmas.Bool.Decides.{nat_tests}
 use Rattle.std.proofs.lemmas.Str.{is_utf8-from_IsUtf8}
 use Rattle.std.proofs.lemmas.Fmt.{decimal_by_steps}
@@ -16,7 +16,7 @@ use Rattle.cat_image.specs.declared.tables.ImageKind.TheVariants as words
 use Rattle.cat_image.specs.Words.{Text, IsSmall, IsSmallPos, pos_text, kind_text}
 use Rattle.cat_image.specs.Listed.{is_line}
 use Rattle.cat_image.specs.Rows.{behind_blank}
-use Rattle.cat_emitted.proofs.WordFacts.{both, no_feed, line_append}
+use Rattle.cat_emitted.proofs.WordFacts.{no_feed, line_append}
 
 -- ---- ASCII
 
@@ -28,14 +28,14 @@ plain_low : (text : Text) → list_all is_plain text ≡ true → list_all (λ c
 plain_low [] h = refl
 plain_low (b ∷ bs) h =
     let parts = and_parts (is_plain b) (list_all is_plain bs) h in
-    both (ltb b 128) (list_all (λ c. ltb c 128) bs) (and_parts (ltb b 128) (not (b == 10)) parts.0).0
+    and_from (ltb b 128) (list_all (λ c. ltb c 128) bs) (and_parts (ltb b 128) (not (b == 10)) parts.0).0
     (plain_low bs parts.1)
 
 plain_no_feed : (text : Text) → list_all is_plain text ≡ true → list_all no_feed text ≡ true
 plain_no_feed [] h = refl
 plain_no_feed (b ∷ bs) h =
     let parts = and_parts (is_plain b) (list_all is_plain bs) h in
-    both (no_feed b) (list_all no_feed bs) (and_parts (ltb b 128) (not (b == 10)) parts.0).1
+    and_from (no_feed b) (list_all no_feed bs) (and_parts (ltb b 128) (not (b == 10)) parts.0).1
     (plain_no_feed bs parts.1)
 
 low_scalars : (text : Text) → list_all (λ c. ltb c 128) text ≡ true → all_scalars text ≡ true
@@ -43,7 +43,7 @@ low_scalars [] h = refl
 low_scalars (b ∷ bs) h =
     let parts = and_parts (ltb b 128) (list_all (λ c. ltb c 128) bs) h in
     let low = parts.0 in
-    both _ (all_scalars bs) (grind (arith, nat_tests, low)) (low_scalars bs parts.1)
+    and_from _ (all_scalars bs) (grind (arith, nat_tests, low)) (low_scalars bs parts.1)
 
 pub low_utf8 : (text : Text) → list_all (λ c. ltb c 128) text ≡ true → IsUtf8 text
 low_utf8 text low = (text, (low_scalars text low, ascii_chars text low))
@@ -51,14 +51,15 @@ low_utf8 text low = (text, (low_scalars text low, ascii_chars text low))
 pub plain_line : (text : Text) → list_all is_plain text ≡ true → is_line text ≡ true
 plain_line text h =
     let low = plain_low text h in
-    both (is_utf8 text) (list_all no_feed text)
+    and_from (is_utf8 text) (list_all no_feed text)
     (is_utf8-from_IsUtf8 text (low_utf8 text low)) (plain_no_feed text h)
 
 -- ---- numbers and positions
 
 digit_line : (d : ℕ) → d < 10 → is_line ((48 + d) ∷ []) ≡ true
 digit_line d small =
-    plain_line ((48 + d) ∷ []) (both (is_plain (48 + d)) true (let low = small in grind (arith, nat_tests, low)) refl)
+    plain_line ((48 + d) ∷ [])
+    (and_from (is_plain (48 + d)) true (let low = small in grind (arith, nat_tests, low)) refl)
 
 pub decimal_line : (n : ℕ) → n < 2 ^ 64 → is_line (decimal n) ≡ true
 decimal_line = decimal_by_steps (λ _ ds. is_line ds ≡ true) digit_line

@@ -4,7 +4,7 @@ use Rattle.std.proofs.Common.{Some, slice_get, refl, sym, ap, ◌∙◌, subst, 
 use Rattle.std.specs.Prelude.{bytes_eq}
 use Rattle.std.proofs.lemmas.Slice.Eq.{bytes_eq-Decides}
 use Rattle.cat_scope.specs.Names.{AllHave, IsOneOf}
-use Rattle.cat_names.proofs.Exported.{Apart}
+use Rattle.cat_names.proofs.Exported.{Apart, in_front, behind}
 use Rattle.cat_emitted.specs.Spelled.{AreApart}
 
 -- ---- what holds of each
@@ -16,10 +16,6 @@ all_left P (x ∷ xs) ys h = (h.0, all_left P xs ys h.1)
 pub all_right : {A : Type 0} (P : A → Type 0) (xs ys : List A) → AllHave P (xs ++ ys) → AllHave P ys
 all_right P [] ys h = h
 all_right P (x ∷ xs) ys h = all_right P xs ys h.1
-
-pub all_both : {A : Type 0} (P : A → Type 0) (xs ys : List A) → AllHave P xs → AllHave P ys → AllHave P (xs ++ ys)
-all_both P [] ys h i = i
-all_both P (x ∷ xs) ys h i = (h.0, all_both P xs ys h.1 i)
 
 pub each_of : {A : Type 0} (P Q : A → Type 0) → ((x : A) → P x → Q x) → (xs : List A) → AllHave P xs → AllHave Q xs
 each_of P Q on [] all = tt
@@ -51,15 +47,6 @@ pub at_one : {A : Type 0} (xs : List A) (x : A) → IsOneOf x xs → (k : ℕ) �
 at_one [] x h = elim h [ ]
 at_one (y ∷ ys) x (inl is) = (zero, ap (λ z. Some z) (sym is))
 at_one (y ∷ ys) x (inr h) = let more = at_one ys x h in (suc more.0, more.1)
-
-pub one_in_front : {A : Type 0} (x : A) (xs ys : List A) → IsOneOf x xs → IsOneOf x (xs ++ ys)
-one_in_front x [] ys h = elim h [ ]
-one_in_front x (y ∷ xs) ys (inl is) = inl is
-one_in_front x (y ∷ xs) ys (inr h) = inr (one_in_front x xs ys h)
-
-pub one_behind : {A : Type 0} (x : A) (xs ys : List A) → IsOneOf x ys → IsOneOf x (xs ++ ys)
-one_behind x [] ys h = h
-one_behind x (y ∷ xs) ys h = inr (one_behind x xs ys h)
 
 pub one_mapped : {A B : Type 0} (f : A → B) (x : A) (xs : List A) → IsOneOf x xs → IsOneOf (f x) (map f xs)
 one_mapped f x [] h = elim h [ ]
@@ -94,7 +81,7 @@ apart_texts (t ∷ ts) h = (not_one t ts h.0, apart_texts ts h.1)
 
 pub apart_left : (xs ys : List (List ℕ)) → AreApart (xs ++ ys) → AreApart xs
 apart_left [] ys h = tt
-apart_left (x ∷ xs) ys h = (λ one. h.0 (one_in_front x xs ys one), apart_left xs ys h.1)
+apart_left (x ∷ xs) ys h = (λ one. h.0 (in_front x xs ys one), apart_left xs ys h.1)
 
 pub apart_right : (xs ys : List (List ℕ)) → AreApart (xs ++ ys) → AreApart ys
 apart_right [] ys h = h
@@ -104,7 +91,7 @@ apart_right (x ∷ xs) ys h = apart_right xs ys h.1
 pub apart_across : (xs ys : List (List ℕ)) (t : List ℕ) → AreApart (xs ++ ys) → IsOneOf t xs → IsOneOf t ys → ⊥
 apart_across [] ys t h one other = one
 apart_across (x ∷ xs) ys t h (inl is) other =
-    h.0 (one_behind x xs ys (subst (λ (u : List ℕ). IsOneOf u ys) is other))
+    h.0 (behind x xs ys (subst (λ (u : List ℕ). IsOneOf u ys) is other))
 apart_across (x ∷ xs) ys t h (inr one) other = apart_across xs ys t h.1 one other
 
 -- each stands at one place

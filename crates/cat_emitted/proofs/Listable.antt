@@ -5,6 +5,7 @@ use Rattle.std.specs.Prelude.{codes, flat_map}
 use Rattle.std.specs.List.{AllByRecursion, list_all}
 use Rattle.std.proofs.lemmas.Bool.Decides.{nat_tests}
 use Rattle.cat_scope.specs.Names.{AllHave}
+use Rattle.cat_scope.proofs.Exported.{all_append}
 use Rattle.cat_code.specs.declared.instr.Instr.{Instr}
 use Rattle.cat_code.specs.declared.code.Constant.{Constant}
 use Rattle.cat_code.specs.declared.code.Tables.{Tables}
@@ -25,7 +26,7 @@ use Rattle.cat_emitted.specs.Spelled.{AreSpelledDecls}
 use Rattle.cat_lower.specs.Files.{IsVariableTarget}
 use Rattle.cat_emitted.specs.Emitted.{IsOfFiles, AreOfFiles}
 use Rattle.cat_emitted.proofs.Readings.{IsReadBack}
-use Rattle.cat_emitted.proofs.ListFacts.{all_at, all_both, all_left, all_right, all_map, each_of}
+use Rattle.cat_emitted.proofs.ListFacts.{all_at, all_left, all_right, all_map, each_of}
 use Rattle.cat_emitted.proofs.WordFacts.{line_append}
 use Rattle.cat_emitted.proofs.LineFacts.{plain_line, blank_line, pos_line}
 use Rattle.cat_emitted.proofs.ValueLines.{value_line}
@@ -122,20 +123,20 @@ module _ (code : Tables) (instructions : List Instr) (files : List Text) (spelle
       let ps = map row.Position image.positions in
       let ks = map row.Constant image.constants in
       let is = instruction_rows 0 instructions in
-      all_both MayStand fs _ (all_map MayStand row.File files
+      all_append MayStand fs _ (all_map MayStand row.File files
       (each_of (λ name. IsTrue (is_line name)) (λ name. MayStand (row.File name)) rows.file_stands files files_lined))
-      (all_both MayStand ss _ (rows.structures_stand code files spelled one_entry_each placed)
-      (all_both MayStand es _ (rows.enumerations_stand code files spelled one_entry_each placed)
-      (all_both MayStand cs _ (rows.scopes_stand code files spelled one_entry_each placed
+      (all_append MayStand ss _ (rows.structures_stand code files spelled one_entry_each placed)
+      (all_append MayStand es _ (rows.enumerations_stand code files spelled one_entry_each placed)
+      (all_append MayStand cs _ (rows.scopes_stand code files spelled one_entry_each placed
       (all_left IsSmall code.scopes code.functions entries_small))
-      (all_both MayStand ts _ targets_stand
-      (all_both MayStand ds _ (rows.definitions_stand code files spelled one_entry_each placed)
-      (all_both MayStand ns _ (all_map MayStand row.Function code.functions
+      (all_append MayStand ts _ targets_stand
+      (all_append MayStand ds _ (rows.definitions_stand code files spelled one_entry_each placed)
+      (all_append MayStand ns _ (all_map MayStand row.Function code.functions
       (each_of IsSmall (λ n. MayStand (row.Function n)) rows.function_stands code.functions
       (all_right IsSmall code.scopes code.functions entries_small)))
-      (all_both MayStand ps _ (rows.positions_stand code files spelled one_entry_each placed)
-      (all_both MayStand ks _ constants_stand
-      (all_both MayStand is [] (rows.instructions_stand 0 instructions (omega (arith, few)) small) tt)))))))))
+      (all_append MayStand ps _ (rows.positions_stand code files spelled one_entry_each placed)
+      (all_append MayStand ks _ constants_stand
+      (all_append MayStand is [] (rows.instructions_stand 0 instructions (omega (arith, few)) small) tt)))))))))
 
   pub listable : IsListable image instructions
   listable = record {

@@ -5,6 +5,7 @@ use Rattle.std.proofs.Common.{Some, None, slice_get, refl, sym, subst, arith, de
 use Rattle.std.specs.Prelude.{codes, flat_map, if◌then◌else◌}
 use Rattle.std.specs.List.{AllByRecursion}
 use Rattle.cat_scope.specs.Names.{AllHave}
+use Rattle.cat_scope.proofs.Exported.{all_append}
 use Rattle.cat_value.specs.declared.ty.Ty.{Ty}
 use Rattle.cat_value.specs.declared.declaration.Structure.{Structure}
 use Rattle.cat_value.specs.declared.declaration.Case.{Case}
@@ -30,7 +31,7 @@ use Rattle.cat_image.specs.Listed.{item_words, kind_words, scopes_words, pos_wor
 use Rattle.cat_image.specs.Listed.{content_words}
 use Rattle.cat_emitted.specs.Spelled.{AreSpelledDecls, IsTypeWord, IsSpelledScope}
 use Rattle.cat_emitted.specs.Emitted.{IsOfFiles, AreOfFiles}
-use Rattle.cat_emitted.proofs.ListFacts.{all_at, all_both, all_map, one_at}
+use Rattle.cat_emitted.proofs.ListFacts.{all_at, all_map, one_at}
 use Rattle.cat_emitted.proofs.WordFacts.{line_append, type_line, part_line, type_name, part_name}
 use Rattle.cat_emitted.proofs.LineFacts.{plain_line, small_line, blank_line, pos_line, kind_line}
 use Rattle.cat_emitted.proofs.InstructionFacts.{instr_line}
@@ -52,11 +53,7 @@ front_line = line_append
 flat_stand : {A : Type 0} (rows : A → List Row) (xs : List A) → AllHave (λ x. AllHave MayStand (rows x)) xs
     → AllHave MayStand (flat_map rows xs)
 flat_stand rows [] all = tt
-flat_stand rows (x ∷ xs) all = all_both MayStand (rows x) (flat_map rows xs) all.0 (flat_stand rows xs all.1)
-
-all_places : {A : Type 0} (P : A → Type 0) (xs : List A) → ((k : ℕ) (x : A) → slice_get xs k ≡ Some x → P x)
-    → AllHave P xs
-all_places = items.all_from
+flat_stand rows (x ∷ xs) all = all_append MayStand (rows x) (flat_map rows xs) all.0 (flat_stand rows xs all.1)
 
 -- ---- single rows
 
@@ -101,7 +98,7 @@ module _ (code : Tables) (files : List Text) (spelled : AreSpelledDecls code.dec
         },
         all_map MayStand row.Field (map (field_words ds) s.fields)
             (all_map (λ f. MayStand (row.Field f)) (field_words ds) s.fields
-            (all_places (λ f. MayStand (row.Field (field_words ds f))) s.fields (λ k f own.
+            (items.all_from (λ f. MayStand (row.Field (field_words ds f))) s.fields (λ k f own.
             let name = all_at _ s.fields k f word.fields own in
             let declared = types.field_declared code files spelled n s f at (one_at s.fields k f own) in
             record {
@@ -135,7 +132,7 @@ module _ (code : Tables) (files : List Text) (spelled : AreSpelledDecls code.dec
         },
         all_map MayStand row.Case (map (case_words ds) e.cases)
             (all_map (λ c. MayStand (row.Case c)) (case_words ds) e.cases
-            (all_places (λ c. MayStand (row.Case (case_words ds c))) e.cases (λ k c own.
+            (items.all_from (λ c. MayStand (row.Case (case_words ds c))) e.cases (λ k c own.
             let name = all_at _ e.cases k c word.cases own in
             let content = content_stands n k e c at own in
             record {
@@ -148,12 +145,12 @@ module _ (code : Tables) (files : List Text) (spelled : AreSpelledDecls code.dec
   pub structures_stand : AllHave MayStand (flat_map structure_rows (map (structure_words ds) ds.structures))
   structures_stand = flat_stand structure_rows (map (structure_words ds) ds.structures)
       (all_map (λ s. AllHave MayStand (structure_rows s)) (structure_words ds) ds.structures
-      (all_places (λ s. AllHave MayStand (structure_rows (structure_words ds s))) ds.structures structure_stands))
+      (items.all_from (λ s. AllHave MayStand (structure_rows (structure_words ds s))) ds.structures structure_stands))
 
   pub enumerations_stand : AllHave MayStand (flat_map enumeration_rows (map (enumeration_words ds) ds.enumerations))
   enumerations_stand = flat_stand enumeration_rows (map (enumeration_words ds) ds.enumerations)
       (all_map (λ e. AllHave MayStand (enumeration_rows e)) (enumeration_words ds) ds.enumerations
-      (all_places (λ e. AllHave MayStand (enumeration_rows (enumeration_words ds e))) ds.enumerations
+      (items.all_from (λ e. AllHave MayStand (enumeration_rows (enumeration_words ds e))) ds.enumerations
       enumeration_stands))
 
   -- ---- scopes
@@ -165,7 +162,7 @@ module _ (code : Tables) (files : List Text) (spelled : AreSpelledDecls code.dec
   what_lined item fair = by item.kind refl
     where
       declared : AllHave (λ t. what.IsDeclared ds spelled t) item.params
-      declared = all_places (λ t. what.IsDeclared ds spelled t) item.params fair.is_item.params_declared
+      declared = items.all_from (λ t. what.IsDeclared ds spelled t) item.params fair.is_item.params_declared
 
       variable : (c : Bool) → is_line (if c then codes "condition" else type_text ds item.ty) ≡ true
       variable true = plain_line (codes "condition") refl
@@ -206,7 +203,7 @@ module _ (code : Tables) (files : List Text) (spelled : AreSpelledDecls code.dec
       let places = all_at (λ (r : Scope). AllHave (λ i. IsOfFiles files i.pos) r.items) ds.scopes n s placed.items at in
       all_map MayStand row.Item (map (item_words ds) s.items)
       (all_map (λ i. MayStand (row.Item i)) (item_words ds) s.items
-      (all_places (λ i. MayStand (row.Item (item_words ds i))) s.items (λ k i own.
+      (items.all_from (λ i. MayStand (row.Item (item_words ds i))) s.items (λ k i own.
       item_stands i (items.item_fair code files spelled one_entry_each n k s i at own)
       (all_at (λ (i : ItemDecl). IsOfFiles files i.pos) s.items k i places own))))
 
@@ -222,14 +219,14 @@ module _ (code : Tables) (files : List Text) (spelled : AreSpelledDecls code.dec
           line = front_line (codes "scope ") _ (plain_line (codes "scope ") refl)
               (line_append s.name _ (type_line s.name all.0.0) (blank_line (decimal e) (small_line e small.0)));
         },
-        all_both MayStand (map row.Item (map (item_words ds) s.items)) rest all.0.1
+        all_append MayStand (map row.Item (map (item_words ds) s.items)) rest all.0.1
             (scopes_stand_from ss es all.1 small.1),
       )
 
   pub scopes_stand : AllHave IsSmall code.scopes
       → AllHave MayStand (flat_map scope_rows (scopes_words ds ds.scopes code.scopes))
   scopes_stand small = scopes_stand_from ds.scopes code.scopes
-      (all_places _ ds.scopes (λ n s at. (
+      (items.all_from _ ds.scopes (λ n s at. (
         (all_at IsSpelledScope ds.scopes n s spelled.scopes at).name,
         scope_items_stand n s at,
       ))) small
@@ -244,7 +241,7 @@ module _ (code : Tables) (files : List Text) (spelled : AreSpelledDecls code.dec
   pub definitions_stand : AllHave MayStand (map row.Definition (map pos_words code.definitions))
   definitions_stand = all_map MayStand row.Definition (map pos_words code.definitions)
       (all_map (λ p. MayStand (row.Definition p)) pos_words code.definitions
-      (all_places (λ p. MayStand (row.Definition (pos_words p))) code.definitions (λ k p own.
+      (items.all_from (λ p. MayStand (row.Definition (pos_words p))) code.definitions (λ k p own.
       let there = all_at (IsOfFiles files) code.definitions k p placed.definitions own in
       record {
         row = small_pos files p there;
@@ -254,7 +251,7 @@ module _ (code : Tables) (files : List Text) (spelled : AreSpelledDecls code.dec
   pub positions_stand : AllHave MayStand (map row.Position (map pos_words code.positions))
   positions_stand = all_map MayStand row.Position (map pos_words code.positions)
       (all_map (λ p. MayStand (row.Position p)) pos_words code.positions
-      (all_places (λ p. MayStand (row.Position (pos_words p))) code.positions (λ k p own.
+      (items.all_from (λ p. MayStand (row.Position (pos_words p))) code.positions (λ k p own.
       let there = all_at (IsOfFiles files) code.positions k p placed.positions own in
       record {
         row = small_pos files p there;

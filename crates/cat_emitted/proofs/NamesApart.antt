@@ -28,7 +28,7 @@ use Rattle.cat_names.proofs.Exported.{both_ok, then_ok, declared_parts, names_ap
 use Rattle.cat_emitted.specs.Spelled.{AreApart, declared_names}
 use Rattle.cat_emitted.proofs.ListFacts.{apart_texts, apart_between}
 
-none_in : (xs ys : List Fault) → xs ++ ys ≡ [] → xs ≡ []
+pub none_in : (xs ys : List Fault) → xs ++ ys ≡ [] → xs ≡ []
 none_in [] ys h = refl
 none_in (x ∷ xs) ys h = cc h
 

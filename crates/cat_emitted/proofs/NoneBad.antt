@@ -16,12 +16,12 @@ use Rattle.cat_image.specs.Words.{Text}
 use Rattle.cat_image.specs.Listed.{words_of, pos_words, target_words, constant_words}
 use Rattle.cat_verify_tables.specs.WrongParts.{IsLost, IsWrongTarget}
 use Rattle.cat_verify_tables.specs.WrongTables.{IsBadTable, IsWrongConstant}
+use Rattle.cat_verify_tables.proofs.Exported.{none_is_bad}
 use Rattle.cat_emitted.specs.Spelled.{AreSpelledDecls, AreApart}
 use Rattle.cat_lower.specs.Files.{IsVariableTarget}
 use Rattle.cat_emitted.specs.Emitted.{IsOfFiles, AreOfFiles}
 use Rattle.cat_emitted.proofs.Readings.{IsReadBack, AreReadAlike}
 use Rattle.cat_emitted.proofs.ListFacts.{all_of_one, apart_across, one_unmapped}
-use Rattle.cat_emitted.proofs.AllRight.{none_is_bad}
 use Rattle.cat_emitted.proofs.PartFacts.{structures_are_right, enumerations_are_right}
 use Rattle.cat_emitted.proofs.ScopeFacts.{scopes_are_right}
 use Rattle.cat_emitted.proofs.TargetFacts.{target_right}

@@ -28,18 +28,17 @@ use Rattle.cat_image.specs.declared.tables.ImageEnumeration.{ImageEnumeration}
 use Rattle.cat_image.specs.declared.tables.ImageTables.{ImageTables}
 use Rattle.cat_image.specs.Words.{Text}
 use Rattle.cat_image.specs.Listed.{words_of, structure_words, enumeration_words, field_words, case_words, content_words}
-use Rattle.cat_verify_tables.specs.TypeWords.{IsTypeName, IsPartName, IsKnown, IsHigher, HasPart, IsBase, IsMadeOf}
+use Rattle.cat_verify_tables.specs.TypeWords.{IsTypeName, IsPartName, IsHigher, HasPart, IsBase, IsMadeOf}
 use Rattle.cat_verify_tables.specs.TypeWords as words
 use Rattle.cat_verify_tables.specs.WrongParts.{IsWrongName, IsWrongType, IsWrongPart, ClosesCycle}
+use Rattle.cat_verify_tables.specs.inside.DeclaredWords.{structures_named, enumeration_name}
+use Rattle.cat_verify_tables.proofs.Exported.{IsRightStructure, NoContent, IsRightCase, IsRightEnumeration}
 use Rattle.std.proofs.lemmas.Bool.Decides.{nat_tests}
 use Rattle.cat_emitted.specs.Spelled.{AreSpelledDecls, IsTypeWord, IsPartWord, AreApart}
 use Rattle.cat_emitted.proofs.ListFacts.{all_at, one_at, one_mapped, all_of_one, apart_left, apart_right}
 use Rattle.cat_emitted.proofs.ListFacts.{apart_across, one_of_both}
 use Rattle.cat_emitted.proofs.TypeFacts as types
 use Rattle.cat_emitted.proofs.Splits.{IsSplit, map_split, split_at, split_one, split_before, apart_front}
-use Rattle.cat_emitted.proofs.RightLemmas.{IsRightStructure, NoContent}
-use Rattle.cat_emitted.proofs.RightRows.{IsRightCase, IsRightEnumeration}
-use Rattle.cat_emitted.proofs.Sections.{structures_named, enumeration_name}
 
 -- ---- heights go along parts
 

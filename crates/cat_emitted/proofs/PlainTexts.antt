@@ -9,7 +9,7 @@ use Rattle.std.specs.Char.{is_ascii_digit}
 use Rattle.std.specs.Fmt.{digits, digits_onto, digit_glyph, signed_decimal}
 use Rattle.std.specs.List.{list_all}
 use Rattle.std.specs.Str.{IsUtf8}
-use Rattle.std.proofs.lemmas.Bool.{and_parts}
+use Rattle.std.proofs.lemmas.Bool.{and_parts, and_from}
 use Rattle.std.proofs.lemmas.Bool.Decides.{nat_tests}
 use Rattle.std.proofs.lemmas.List.Folds.{list_all-append}
 use Rattle.std.proofs.lemmas.Slice.Eq.{bytes_eq-Decides}
@@ -19,7 +19,6 @@ use Rattle.cat_num.specs.Text.{money_bytes}
 use Rattle.cat_date.specs.Calendar.{IsDay}
 use Rattle.cat_date.specs.Text.{form_of, day_text, day_of_text}
 use Rattle.cat_date.proofs.RoundTrip.{day_of_text-day_text}
-use Rattle.cat_emitted.proofs.WordFacts.{both}
 use Rattle.cat_emitted.proofs.LineFacts.{low_utf8}
 
 -- ---- ASCII
@@ -31,10 +30,10 @@ abbrev IsLow : List ℕ → Type 0
 IsLow text = list_all low text ≡ true
 
 low_both : (one other : List ℕ) → IsLow one → IsLow other → IsLow (one ++ other)
-low_both one other a b = list_all-append low one other ∙ both (list_all low one) (list_all low other) a b
+low_both one other a b = list_all-append low one other ∙ and_from (list_all low one) (list_all low other) a b
 
 low_first : (b : ℕ) (text : List ℕ) → low b ≡ true → IsLow text → IsLow (b ∷ text)
-low_first b text one more = both (low b) (list_all low text) one more
+low_first b text one more = and_from (low b) (list_all low text) one more
 
 glyph_low : (d : ℕ) → d < 10 → low (digit_glyph false d) ≡ true
 glyph_low d small = by (nat_lt d 10) refl

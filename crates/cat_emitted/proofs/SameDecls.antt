@@ -1,28 +1,14 @@
 -- Declarations with the words of spelled ones have their structures and enumerations, and read texts alike.
-use Rattle.std.proofs.Common.{◌≡◌, ℕ, List, [], ◌∷◌, map, Option, Some, None, slice_get, refl, sym, ap, ◌∙◌}
-use Rattle.std.specs.Prelude.{Result}
-use Rattle.std.specs.Ordering.{match_ordering, nat_cmp}
-use Rattle.std.specs.Cmp.Lexicographic.{slice_cmp}
-use Rattle.std.proofs.Math.Path.{fun_ext}
-use Rattle.serde_json.specs.Data.{Data, null, boolean, number, string, array, object, Items, no_items, item, Members}
-use Rattle.serde_json.specs.Data.{no_members, member}
-use Rattle.serde_json.specs.Find.{as_object, as_str}
+use Rattle.std.proofs.Common.{◌≡◌, ℕ, List, map, Option, Some, None, slice_get, refl, sym, ap, ◌∙◌}
 use Rattle.cat_scope.specs.Names.{AllHave}
 use Rattle.cat_value.specs.declared.ty.Ty.{Ty}
-use Rattle.cat_value.specs.declared.ty.Ty.TheOpen.{Ty-F}
-use Rattle.cat_value.specs.declared.ty.Ty.TheViews.{out-Ty}
-use Rattle.cat_value.specs.declared.value.Value.{Value}
 use Rattle.cat_value.specs.declared.declaration.Field.{Field}
 use Rattle.cat_value.specs.declared.declaration.Structure.{Structure}
 use Rattle.cat_value.specs.declared.declaration.Case.{Case}
 use Rattle.cat_value.specs.declared.declaration.Enumeration.{Enumeration}
 use Rattle.cat_value.specs.declared.decls.Decls.{Decls}
-use Rattle.cat_value.specs.Entries.{fields_in}
 use Rattle.cat_code.specs.declared.code.Tables.{Tables}
-use Rattle.cat_json.specs.declared.refusal.InputRefusal.{InputRefusal}
-use Rattle.cat_json.specs.InputsRead.{answered, json_of, read_from, value_read}
-use Rattle.cat_json.specs.Reads.{Reader, elements_of, enumeration_in, members_of, none_named, read_as, read_level}
-use Rattle.cat_json.specs.Reads.{structure_in}
+use Rattle.cat_json.specs.InputsRead.{value_read}
 use Rattle.cat_listing.specs.Texts.{type_text}
 use Rattle.cat_image.specs.declared.tables.ImageField.{ImageField}
 use Rattle.cat_image.specs.declared.tables.ImageStructure.{ImageStructure}
@@ -30,80 +16,13 @@ use Rattle.cat_image.specs.declared.tables.ImageCase.{ImageCase}
 use Rattle.cat_image.specs.declared.tables.ImageEnumeration.{ImageEnumeration}
 use Rattle.cat_image.specs.Words.{Text}
 use Rattle.cat_image.specs.Listed.{case_words, content_words, enumeration_words, field_words, structure_words, words_of}
+use Rattle.cat_verify_tables.proofs.Exported.{words_one, map_twice, same_value}
 use Rattle.cat_emitted.specs.Spelled.{AreSpelledDecls}
 use Rattle.cat_emitted.proofs.Readings.{AreReadAlike}
 use Rattle.cat_emitted.proofs.ListFacts.{one_at}
 use Rattle.cat_emitted.proofs.ItemFacts.{all_from}
 use Rattle.cat_emitted.proofs.TypeFacts as types
 use Rattle.cat_emitted.proofs.SameTexts.{text_only}
-
--- ---- lists
-
-words_one : {A B : Type 0} (one other : A → B) (P : A → Type 0)
-    → ((x y : A) → P x → one x ≡ other y → x ≡ y) → (xs ys : List A) → AllHave P xs → map one xs ≡ map other ys
-    → xs ≡ ys
-words_one one other P each [] [] all same = refl
-words_one one other P each [] (y ∷ ys) all same = absurd (cc same)
-words_one one other P each (x ∷ xs) [] all same = absurd (cc same)
-words_one one other P each (x ∷ xs) (y ∷ ys) all same =
-    ap (λ z. z ∷ xs) (each x y all.0 (cc same))
-    ∙ ap (λ zs. y ∷ zs) (words_one one other P each xs ys all.1 (cc same))
-
-map_twice : {A B C : Type 0} (f : B → C) (g : A → B) (xs : List A) → map f (map g xs) ≡ map (λ x. f (g x)) xs
-map_twice f g [] = refl
-map_twice f g (x ∷ xs) = ap (λ ys. f (g x) ∷ ys) (map_twice f g xs)
-
--- ---- a text is read by structures and enumerations alone
-
-module _ (ds us : Decls) (structures : ds.structures ≡ us.structures)
-    (enumerations : ds.enumerations ≡ us.enumerations) where
-  level : (d : Data) (elements : List Reader) (members : List ℕ → Option Reader) (t : Ty-F Ty)
-      → read_level ds d elements members t ≡ read_level us d elements members t
-  level d elements members Ty-F.Boolean = refl
-  level d elements members Ty-F.Integer = refl
-  level d elements members Ty-F.Decimal = refl
-  level d elements members Ty-F.Money = refl
-  level d elements members Ty-F.Date = refl
-  level d elements members Ty-F.Duration = refl
-  level d elements members (Ty-F.List t) = refl
-  level d elements members (Ty-F.Structure n) =
-      ap (λ (ss : List Structure). structure_in (fields_in (slice_get ss n)) (as_object d) members) structures
-  level d elements members (Ty-F.Enumeration n) =
-      ap (λ (es : List Enumeration). enumeration_in (slice_get es n) (as_str d) (as_object d) members) enumerations
-
-  mutual
-    same_data : (d : Data) → read_as ds d ≡ read_as us d
-    same_data null = fun_ext (λ t. level null [] none_named (out-Ty t))
-    same_data (boolean b) = fun_ext (λ t. level (boolean b) [] none_named (out-Ty t))
-    same_data (number n) = fun_ext (λ t. level (number n) [] none_named (out-Ty t))
-    same_data (string s) = fun_ext (λ t. level (string s) [] none_named (out-Ty t))
-    same_data (array items) = fun_ext (λ t.
-        ap (λ (rs : List Reader). read_level ds (array items) rs none_named (out-Ty t)) (same_items items)
-        ∙ level (array items) (elements_of us items) none_named (out-Ty t))
-    same_data (object ms) = fun_ext (λ t.
-        ap (λ (rs : List ℕ → Option Reader). read_level ds (object ms) [] rs (out-Ty t))
-        (fun_ext (λ name. same_members ms name))
-        ∙ level (object ms) [] (members_of us ms) (out-Ty t))
-
-    same_items : (items : Items) → elements_of ds items ≡ elements_of us items
-    same_items no_items = refl
-    same_items (item d items) =
-        ap (λ (r : Reader). r ∷ elements_of ds items) (same_data d)
-        ∙ ap (λ (rs : List Reader). read_as us d ∷ rs) (same_items items)
-
-    same_members : (ms : Members) (name : List ℕ) → members_of ds ms name ≡ members_of us ms name
-    same_members no_members name = refl
-    same_members (member key d ms) name =
-        ap (λ (o : Option Reader). match_ordering (slice_cmp nat_cmp name key) o (Some (read_as ds d)) o)
-        (same_members ms name)
-        ∙ ap (λ (r : Reader). match_ordering (slice_cmp nat_cmp name key) (members_of us ms name) (Some r)
-        (members_of us ms name)) (same_data d)
-
-  same_value : (t : Ty) (bytes : List ℕ) → value_read ds t bytes ≡ value_read us t bytes
-  same_value t bytes = ap (λ (reading : Data → Result Value InputRefusal). read_from reading (json_of bytes))
-      (fun_ext (λ d. ap (λ (r : Reader). answered (r t)) (same_data d)))
-
--- ---- declarations
 
 module _ (code : Tables) (files : List Text) (spelled : AreSpelledDecls code.decls) (o : Decls)
     (structures : map (structure_words code.decls) code.decls.structures ≡ map (structure_words o) o.structures)

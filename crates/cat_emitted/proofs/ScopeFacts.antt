@@ -22,20 +22,18 @@ use Rattle.cat_verify_tables.specs.RowFronts.{Open, open_in, functions_in, is_fu
 use Rattle.cat_verify_tables.specs.TypeWords.{IsPartName}
 use Rattle.cat_verify_tables.specs.WrongParts.{IsWrongItem, IsWrongName}
 use Rattle.cat_verify_tables.specs.WrongParts as wrong
+use Rattle.cat_verify_tables.specs.inside.DeclaredWords.{structures_named, enumerations_named, scope_name}
+use Rattle.cat_verify_tables.proofs.Exported.{open_scope, opened, IsRightScope, before_item, files as file_rows}
+use Rattle.cat_verify_tables.proofs.Exported.{structures, enumerations, functions_before, scopes_parted, items_parted}
 use Rattle.cat_emitted.specs.Spelled.{AreSpelledDecls, IsSpelledScope}
 use Rattle.cat_emitted.specs.Emitted.{IsOfFiles, AreOfFiles}
 use Rattle.cat_emitted.proofs.ListFacts.{all_at, all_of_one, apart_across, apart_right, one_of_both, one_mapped}
-use Rattle.cat_emitted.proofs.FrontLemmas.{open_scope, opened}
-use Rattle.cat_emitted.proofs.CountLemmas.{functions_before, scopes_parted, items_parted, scopes_counted}
-use Rattle.cat_emitted.proofs.RightRows.{IsRightScope, before_item}
-use Rattle.cat_emitted.proofs.Sections.{files as file_rows, structures, enumerations, structures_named}
-use Rattle.cat_emitted.proofs.Sections.{enumerations_named}
-use Rattle.cat_emitted.proofs.Sections.{scope_name}
 use Rattle.cat_emitted.proofs.PartFacts.{part_named, type_named}
 use Rattle.cat_emitted.proofs.ItemFacts as items
 use Rattle.cat_emitted.proofs.PlaceFacts.{not_lost}
 use Rattle.cat_emitted.proofs.Splits.{map_split, split_one, split_before, apart_front, one_scope}
 use Rattle.cat_emitted.proofs.Splits.{AreScopesSplit, scopes_split, scopes_names, at_seam, one_in}
+use Rattle.cat_emitted.proofs.DeclaredFunctions.{scopes_counted}
 
 module _ (code : Tables) (files : List Text) (spelled : AreSpelledDecls code.decls)
     (one_entry_each : length code.scopes ≡ length code.decls.scopes) (placed : AreOfFiles files code)

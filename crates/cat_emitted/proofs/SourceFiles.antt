@@ -1,7 +1,8 @@
 -- The files of a source are apart, and have what the main file and the files that lines include have.
-use Rattle.std.proofs.Common.{◌≡◌, ◌⊎◌, ℕ, zero, suc, nat_le, Bool, true, false, true≢false, ◌||◌, List, [], ◌∷◌, ◌++◌}
+use Rattle.std.proofs.Common.{◌≡◌, ◌⊎◌, ℕ, zero, suc, nat_le, Bool, true, false, List, [], ◌∷◌, ◌++◌}
 use Rattle.std.proofs.Common.{length, Option, Some, None, Ok, Err, refl, subst, inl, inr, bytes_eq}
 use Rattle.std.specs.Prelude.{Result}
+use Rattle.std.proofs.lemmas.Bool.{or_parts}
 use Rattle.cat_pos.specs.declared.pos.Pos.{Pos}
 use Rattle.cat_weave.specs.Woven.{woven}
 use Rattle.cat_weave.specs.declared.segment.Segment.{Segment}
@@ -15,30 +16,27 @@ use Rattle.cat_weave.specs.Gathered.{Ending, Whole, Refused, StopsAt, and_then, 
 use Rattle.cat_weave.specs.Gathered.{woven_gathered, limit_after, bytes_gathered, file_gathered, is_among, is_full}
 use Rattle.cat_weave.specs.Gathered.{included_unless, included, gathered}
 use Rattle.cat_scope.specs.Names.{AllHave, IsOneOf}
+use Rattle.cat_scope.proofs.Exported.{all_append}
 use Rattle.cat_emitted.specs.Spelled.{AreApart}
-use Rattle.cat_emitted.proofs.ListFacts.{all_both, one_of_both, not_one}
-
-or_none : (a b : Bool) → (a || b) ≡ false → (a ≡ false) × (b ≡ false)
-or_none false b e = (refl, e)
-or_none true b e = absurd (true≢false e)
+use Rattle.cat_emitted.proofs.ListFacts.{one_of_both, not_one}
 
 apart_more : (names : List (List ℕ)) (name : List ℕ) → AreApart names → is_among name names ≡ false
     → AreApart (names ++ name ∷ [])
 apart_more [] name apart none = (λ one. one, tt)
 apart_more (t ∷ ts) name apart none =
-    (λ one. by (one_of_both ts (name ∷ []) t one), apart_more ts name apart.1 (or_none _ _ none).1)
+    (λ one. by (one_of_both ts (name ∷ []) t one), apart_more ts name apart.1 (or_parts _ _ none).1)
   where
     by : IsOneOf t ts ⊎ IsOneOf t (name ∷ []) → ⊥
     by (inl a) = apart.0 a
-    by (inr b) = not_one t (name ∷ []) ((or_none (bytes_eq t name) (is_among name ts) none).0, tt) b
+    by (inr b) = not_one t (name ∷ []) ((or_parts (bytes_eq t name) (is_among name ts) none).0, tt) b
 
 -- what holds of what was gathered, where it was
-abbrev OnWhole : {T : Type 0} → (T → Type 0) → Ending T → Type 0
+abbrev pub OnWhole : {T : Type 0} → (T → Type 0) → Ending T → Type 0
 OnWhole P (Whole t) = P t
 OnWhole P (Refused refusal) = Unit {0}
 OnWhole P (StopsAt name bytes) = Unit {0}
 
-on_then : {T : Type 0} (P : Gathered → Type 0) (R : T → Type 0) (e : Ending Gathered) (next : Gathered → Ending T)
+pub on_then : {T : Type 0} (P : Gathered → Type 0) (R : T → Type 0) (e : Ending Gathered) (next : Gathered → Ending T)
     → OnWhole P e → ((g : Gathered) → P g → OnWhole R (next g)) → OnWhole R (and_then e next)
 on_then P R (Whole g) next h go = go g h
 on_then P R (Refused refusal) next h go = tt
@@ -83,7 +81,7 @@ module _ (P : List ℕ → Type 0) where
         where
           more : AreNamed (g.files ++ name ∷ [])
           more = record {
-            names = all_both P g.files (name ∷ []) fine.names (own, tt);
+            names = all_append P g.files (name ∷ []) fine.names (own, tt);
             apart = apart_more g.files name fine.apart free;
           }
 

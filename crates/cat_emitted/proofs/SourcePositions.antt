@@ -24,17 +24,12 @@ use Rattle.cat_weave.specs.declared.segment.WeaveRefusal.{WeaveRefusal}
 use Rattle.cat_weave.specs.declared.segment.WeaveRefusal.TheVariants as weaving
 use Rattle.cat_weave.specs.declared.source.Source.{Source}
 use Rattle.cat_weave.specs.Gathered.{Contents, Gathered, gathered_none, with_piece, with_heading, with_file, source_of}
-use Rattle.cat_weave.specs.Gathered.{Ending, Whole, Refused, StopsAt, and_then, Including, segments_gathered, woven_as}
+use Rattle.cat_weave.specs.Gathered.{Ending, Whole, Refused, StopsAt, Including, segments_gathered, woven_as}
 use Rattle.cat_weave.specs.Gathered.{woven_gathered, limit_after, bytes_gathered, file_gathered, is_among, is_full}
 use Rattle.cat_weave.specs.Gathered.{included_unless, included, gathered}
 use Rattle.cat_scope.specs.Names.{AllHave}
 use Rattle.cat_scope.proofs.Exported.{all_append}
-
--- what holds of what was gathered, where it was
-OnWhole : {T : Type 0} → (T → Type 0) → Ending T → Type 0
-OnWhole P (Whole t) = P t
-OnWhole P (Refused refusal) = Unit {0}
-OnWhole P (StopsAt name bytes) = Unit {0}
+use Rattle.cat_emitted.proofs.SourceFiles.{OnWhole, on_then}
 
 all_weaker : {A : Type 0} (P R : A → Type 0) (xs : List A) → AllHave P xs → ((x : A) → P x → R x) → AllHave R xs
 all_weaker P R [] h go = tt
@@ -106,16 +101,8 @@ same g h = record { files = omega arith; pieces = h }
 then_more : (a b c : Gathered) → length a.files ≤ length b.files → IsMore b c → IsMore a c
 then_more a b c fewer more = record { files = omega (arith, fewer, more.files); pieces = more.pieces }
 
-on_then : {T : Type 0} (P : Gathered → Type 0) (R : T → Type 0) (e : Ending Gathered) (next : Gathered → Ending T)
-    → OnWhole P e → ((g : Gathered) → P g → OnWhole R (next g)) → OnWhole R (and_then e next)
-unfolding OnWhole
-on_then P R (Whole g) next h go = go g h
-on_then P R (Refused refusal) next h go = tt
-on_then P R (StopsAt name bytes) next h go = tt
-
 on_more : (a b : Gathered) (e : Ending Gathered) → length a.files ≤ length b.files → OnWhole (IsMore b) e
     → OnWhole (IsMore a) e
-unfolding OnWhole
 on_more a b (Whole c) fewer h = then_more a b c fewer h
 on_more a b (Refused refusal) fewer h = tt
 on_more a b (StopsAt name bytes) fewer h = tt
@@ -126,7 +113,7 @@ module _ (include : Including) (keeps : Keeps include) where
 
   segments_kept : (segments : List Segment) (g : Gathered) → AllHave (IsBelow (length g.files)) segments → AreIn g
       → OnWhole (IsMore g) (segments_gathered include segments g)
-  unfolding segments_gathered OnWhole
+  unfolding segments_gathered
   segments_kept [] g below has = same g has
   segments_kept (Code piece ∷ segments) g below has =
       on_more g (with_piece piece g) _ (omega arith)
@@ -144,7 +131,7 @@ module _ (include : Including) (keeps : Keeps include) where
 
   file_kept_in : (name : List ℕ) (g : Gathered) (o : Option (List ℕ)) → length g.files < most_files → AreIn g
       → OnWhole (IsMore g) (file_gathered include name g o)
-  unfolding OnWhole OnWoven
+  unfolding OnWoven
   file_kept_in name g None room has = tt
   file_kept_in name g (Some bytes) room has = by (nat_le (length bytes) (limit_after g.bytes))
     where
@@ -170,7 +157,7 @@ module _ (include : Including) (keeps : Keeps include) where
       by false = tt
 
 included_keeps : (contents : Contents) (deeper : ℕ) → Keeps (included contents deeper)
-unfolding included OnWhole
+unfolding included
 included_keeps contents zero path pos g has = tt
 included_keeps contents (suc deeper) path pos g has =
     by (is_full g) refl (is_among path g.files) (included_keeps contents deeper)
@@ -184,7 +171,7 @@ included_keeps contents (suc deeper) path pos g has =
 
 pub pieces_in : (contents : Contents) (main : List ℕ) (source : Source) → gathered contents main ≡ Whole source
     → AllHave (λ piece. pos_file piece.pos < length source.files) source.pieces
-unfolding gathered OnWhole
+unfolding gathered
 pieces_in contents main source is =
     subst (OnWhole (λ (s : Source). AllHave (λ (p : Piece). pos_file p.pos < length s.files) s.pieces)) is
     (on_then (IsMore gathered_none) (λ (s : Source). AllHave (λ (p : Piece). pos_file p.pos < length s.files) s.pieces)

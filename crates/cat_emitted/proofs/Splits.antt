@@ -8,8 +8,9 @@ use Rattle.cat_value.specs.declared.declaration.Scope.{Scope}
 use Rattle.cat_value.specs.declared.decls.Decls.{Decls}
 use Rattle.cat_image.specs.declared.tables.ImageScope.{ImageScope}
 use Rattle.cat_image.specs.Listed.{item_words, scopes_words}
+use Rattle.cat_names.proofs.Exported.{behind}
 use Rattle.cat_emitted.specs.Spelled.{AreApart}
-use Rattle.cat_emitted.proofs.ListFacts.{apart_across, one_behind}
+use Rattle.cat_emitted.proofs.ListFacts.{apart_across}
 
 -- ---- lists
 
@@ -23,7 +24,7 @@ at_seam [] x rest = refl
 at_seam (y ∷ front) x rest = at_seam front x rest
 
 pub one_in : {A : Type 0} (front : List A) (x : A) (rest : List A) → IsOneOf x (front ++ x ∷ rest)
-one_in front x rest = one_behind x front (x ∷ rest) (inl refl)
+one_in front x rest = behind x front (x ∷ rest) (inl refl)
 
 -- entries whose words are split
 pub record IsSplit {A B : Type 0} (f : A → B) (xs : List A) (before : List B) (y : B) : Type 0 where
@@ -134,15 +135,6 @@ scopes_split ds (s ∷ ss) (e ∷ es) (b ∷ before) y after h =
           ∙ ap (λ (c : ImageScope). c ∷ before) head;
       entry_is = more.entry_is;
     }
-
--- the words of scopes in front and behind
-pub scopes_append : (ds : Decls) (one other : List Scope) (es fs : List ℕ) → length es ≡ length one
-    → scopes_words ds (one ++ other) (es ++ fs) ≡ scopes_words ds one es ++ scopes_words ds other fs
-scopes_append ds [] other [] fs same = refl
-scopes_append ds [] other (e ∷ es) fs same = absurd (omega (arith, same))
-scopes_append ds (s ∷ ss) other [] fs same = absurd (omega (arith, same))
-scopes_append ds (s ∷ ss) other (e ∷ es) fs same =
-    ap (λ (zs : List ImageScope). one_scope ds s e ∷ zs) (scopes_append ds ss other es fs (omega (arith, same)))
 
 -- names
 pub scopes_names : (ds : Decls) (scopes : List Scope) (entries : List ℕ) → length entries ≡ length scopes

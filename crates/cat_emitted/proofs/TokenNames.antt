@@ -21,8 +21,8 @@ use Rattle.cat_lex.proofs.Characters.{peel}
 use Rattle.cat_lex.proofs.Spelled.{rest_utf8}
 use Rattle.cat_lex.proofs.Sequences.{token_utf8}
 use Rattle.cat_scope.specs.Names.{AllHave}
+use Rattle.cat_scope.proofs.Exported.{all_append}
 use Rattle.cat_emitted.specs.Spelled.{IsTypeWord, IsPartWord}
-use Rattle.cat_emitted.proofs.ListFacts.{all_both}
 
 -- a kind of tokens whose name, where it has one, is spelled as one
 abbrev pub IsNamedFairly : TokenKind → Type 0
@@ -98,5 +98,5 @@ pub lexed_fair : (pieces : List Piece) (tokens : List Token) → Lexes pieces to
 lexed_fair [] tokens lexed = subst AreNamedFairly (sym lexed) tt
 lexed_fair (piece ∷ pieces) tokens lexed =
     subst AreNamedFairly (sym lexed.2)
-    (all_both (λ t. IsNamedFairly t.kind) lexed.0 lexed.1
+    (all_append (λ t. IsNamedFairly t.kind) lexed.0 lexed.1
     (tokens_fair piece lexed.0 lexed.3.left lexed.3.spelled lexed.3.utf8) (lexed_fair pieces lexed.1 lexed.4))

@@ -30,10 +30,11 @@ use Rattle.cat_image.specs.declared.tables.ImageEnumeration.{ImageEnumeration}
 use Rattle.cat_image.specs.declared.tables.ImageTables.{ImageTables}
 use Rattle.cat_image.specs.Words.{Text}
 use Rattle.cat_image.specs.Listed.{words_of, structure_words, enumeration_words, field_words, case_words, content_words}
-use Rattle.cat_verify_tables.specs.TypeWords.{IsKnown, IsHigher, HasPart, flat_types, type_names}
+use Rattle.cat_verify_tables.specs.TypeWords.{IsKnown, IsHigher, HasPart, flat_types}
 use Rattle.cat_verify_tables.specs.TypeWords as words
+use Rattle.cat_names.proofs.Exported.{in_front, behind}
 use Rattle.cat_emitted.specs.Spelled.{AreSpelledDecls}
-use Rattle.cat_emitted.proofs.ListFacts.{all_at, one_at, at_one, one_in_front, one_behind, one_mapped, one_unmapped}
+use Rattle.cat_emitted.proofs.ListFacts.{all_at, one_at, at_one, one_mapped, one_unmapped}
 use Rattle.cat_emitted.proofs.ListFacts.{apart_left, apart_right, apart_across, apart_places}
 use Rattle.cat_emitted.proofs.FirstLetters.{named_no_list, flat_no_list, flat_no_name}
 
@@ -124,7 +125,7 @@ module _ (code : Tables) (files : List Text) (spelled : AreSpelledDecls code.dec
   structure_known : (n : ℕ) → HasKnown (flat.Structure n)
   structure_known n declared =
       let it = found ds.structures n (structure_there ds n declared) in
-      words.declared (one_in_front (type_text ds (flat.Structure n))
+      words.declared (in_front (type_text ds (flat.Structure n))
       (map (λ (s : ImageStructure). s.name) image.structures)
       (map (λ (e : ImageEnumeration). e.name) image.enumerations)
       (subst (λ (w : Text). IsOneOf w (map (λ (s : ImageStructure). s.name) image.structures))
@@ -135,7 +136,7 @@ module _ (code : Tables) (files : List Text) (spelled : AreSpelledDecls code.dec
   enumeration_known : (n : ℕ) → HasKnown (flat.Enumeration n)
   enumeration_known n declared =
       let it = found ds.enumerations n (enumeration_there ds n declared) in
-      words.declared (one_behind (type_text ds (flat.Enumeration n))
+      words.declared (behind (type_text ds (flat.Enumeration n))
       (map (λ (s : ImageStructure). s.name) image.structures)
       (map (λ (e : ImageEnumeration). e.name) image.enumerations)
       (subst (λ (w : Text). IsOneOf w (map (λ (e : ImageEnumeration). e.name) image.enumerations))

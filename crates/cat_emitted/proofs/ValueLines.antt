@@ -1,5 +1,5 @@
 -- The text of a value that is read back is a line.
-use Rattle.std.proofs.Common.{◌≡◌, ◌+◌, ◌/◌, ◌%◌, ◌==◌, ◌||◌, ℕ, zero, suc, pos, negsuc, Bool, true}
+use Rattle.std.proofs.Common.{◌≡◌, ◌||◌, ◌+◌, ◌/◌, ◌%◌, ◌==◌, ℕ, zero, suc, pos, negsuc, Bool, true}
 use Rattle.std.proofs.Common.{false}
 use Rattle.std.proofs.Common.{cond, nat_lt, [], ◌∷◌, ◌++◌, None, Ok}
 use Rattle.std.proofs.Common.{refl, ◌∙◌, arith, decimal}
@@ -10,6 +10,7 @@ use Rattle.std.specs.List.{list_all}
 use Rattle.std.specs.Str.{is_utf8}
 use Rattle.std.proofs.lemmas.Bool.Decides.{nat_tests}
 use Rattle.std.proofs.lemmas.List.Folds.{list_all-append}
+use Rattle.std.proofs.lemmas.Bool.{and_from}
 use Rattle.json.specs.Print.{escape_letter, escape_byte, escape, quoted}
 use Rattle.serde_json.specs.Data.{Num, unsigned, negative, float, Data, null, boolean, number, string, array, object}
 use Rattle.serde_json.specs.Data.{Items, no_items, item, Members, no_members, member}
@@ -24,17 +25,17 @@ use Rattle.cat_answer.specs.Writes.{value_bytes, data_of}
 use Rattle.cat_image.specs.Words.{Text}
 use Rattle.cat_image.specs.Listed.{is_line}
 use Rattle.cat_emitted.proofs.Readings.{IsReadBack}
-use Rattle.cat_emitted.proofs.WordFacts.{both, no_feed}
+use Rattle.cat_emitted.proofs.WordFacts.{no_feed}
 
 -- a text without a line feed
 abbrev HasNone : Text → Type 0
 HasNone text = list_all no_feed text ≡ true
 
 joined : (one other : Text) → HasNone one → HasNone other → HasNone (one ++ other)
-joined one other a b = list_all-append no_feed one other ∙ both (list_all no_feed one) (list_all no_feed other) a b
+joined one other a b = list_all-append no_feed one other ∙ and_from (list_all no_feed one) (list_all no_feed other) a b
 
 before : (b : ℕ) (text : Text) → no_feed b ≡ true → HasNone text → HasNone (b ∷ text)
-before b text one more = both (no_feed b) (list_all no_feed text) one more
+before b text one more = and_from (no_feed b) (list_all no_feed text) one more
 
 -- ---- texts
 
@@ -158,5 +159,5 @@ read_utf8 reading text a h = by (is_utf8 text) refl h
 pub value_line : (ds : Decls) (c : Constant) → IsReadBack ds c → is_line (value_bytes ds c.ty c.value) ≡ true
 value_line ds c back =
     let text = value_bytes ds c.ty c.value in
-    both (is_utf8 text) (list_all no_feed text)
+    and_from (is_utf8 text) (list_all no_feed text)
     (read_utf8 (λ d. answered (read_as ds d c.ty)) text c.value back) (data_none (data_of ds c.value c.ty))

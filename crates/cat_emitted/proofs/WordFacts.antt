@@ -1,19 +1,20 @@
 -- Names have no blank and no line feed in them.
-use Rattle.std.proofs.Common.{◌≡◌, ℕ, ◌/◌, ◌%◌, ◌<◌, ◌≤◌, ◌+◌, ◌==◌, ◌&&◌, Bool, true, false, not, cond, ltb, List, []}
+use Rattle.std.proofs.Common.{◌≡◌, ℕ, ◌/◌, ◌%◌, ◌<◌, ◌≤◌, ◌+◌, ◌==◌, ◌&&◌, Bool, true, false, not, cond, ltb, []}
 use Rattle.std.proofs.Common.{◌∷◌, ◌++◌, refl, sym, ap, ◌∙◌, arith}
 use Rattle.std.specs.Char.{encode_utf8, is_ascii_uppercase}
 use Rattle.std.specs.List.{list_all}
 use Rattle.std.specs.Str.{encode_utf8_all, is_utf8, IsUtf8}
-use Rattle.std.proofs.lemmas.Bool.{and_parts}
+use Rattle.std.proofs.lemmas.Bool.{and_parts, and_from}
 use Rattle.std.proofs.lemmas.Bool.Decides.{nat_tests}
 use Rattle.std.proofs.lemmas.List.Folds.{list_all-append}
-use Rattle.std.proofs.lemmas.Str.{encode_ascii, is_utf8-from_IsUtf8, IsUtf8-from_is_utf8, IsUtf8-append}
+use Rattle.std.proofs.lemmas.Str.{is_utf8-from_IsUtf8, IsUtf8-from_is_utf8, IsUtf8-append}
 use Rattle.std.proofs.Math.Utf8.{encode}
 use Rattle.unicode_ident.specs.Ident.{is_xid_start, is_xid_continue}
 use Rattle.unicode_ident.proofs.IdentLemmas.{is_xid_continue-ascii, is_xid_start-is_xid_continue}
 use Rattle.cat_lex.specs.Forms.{IsWord, begins_name}
 use Rattle.cat_image.specs.Words.{Text, parts, words, has_bytes, is_name}
 use Rattle.cat_image.specs.Listed.{is_line}
+use Rattle.cat_verify_tables.proofs.Exported.{chars_bytes}
 use Rattle.cat_emitted.specs.Spelled.{IsTypeWord, IsPartWord}
 
 -- ---- bytes
@@ -25,51 +26,14 @@ is_inner b = not (b == 32) && not (b == 10)
 abbrev pub is_unparted : Text → Bool
 is_unparted bytes = list_all is_inner bytes
 
-pub both : (a b : Bool) → a ≡ true → b ≡ true → (a && b) ≡ true
-both true b one two = two
-both false b one two = one
-
 high : (b : ℕ) → 128 ≤ b → is_inner b ≡ true
 high b up = grind (arith, nat_tests)
-
-next_high : (n : ℕ) → is_inner (128 + n % 64) ≡ true
-next_high n = high (128 + n % 64) (omega arith)
-
-high_bytes : (c : ℕ) → ltb c 128 ≡ false → is_unparted (encode_utf8 c) ≡ true
-unfolding encode
-high_bytes c not_low = rw not_low (by (ltb c 2048) (ltb c 65536))
-  where
-    by : (b d : Bool)
-        → is_unparted (cond b ((192 + c / 64) ∷ (128 + c % 64) ∷ [])
-        (cond d ((224 + c / 4096) ∷ (128 + (c / 64) % 64) ∷ (128 + c % 64) ∷ [])
-        ((240 + c / 262144) ∷ (128 + (c / 4096) % 64) ∷ (128 + (c / 64) % 64) ∷ (128 + c % 64) ∷ []))) ≡ true
-    by true d = rw (high (192 + c / 64) (omega arith), next_high c) refl
-    by false true = rw (high (224 + c / 4096) (omega arith), next_high (c / 64), next_high c) refl
-    by false false =
-        rw (high (240 + c / 262144) (omega arith), next_high (c / 4096), next_high (c / 64), next_high c) refl
 
 low_byte : (c : ℕ) → ltb c 128 ≡ true → is_xid_continue c ≡ true → is_inner c ≡ true
 low_byte c low continues =
     let below : c < 128 = grind (arith, nat_tests) in
     let is = sym (is_xid_continue-ascii c below) ∙ continues in
     grind (arith, nat_tests)
-
-char_bytes : (c : ℕ) → is_xid_continue c ≡ true → is_unparted (encode_utf8 c) ≡ true
-char_bytes c continues = by (ltb c 128) refl
-  where
-    by : (b : Bool) → ltb c 128 ≡ b → is_unparted (encode_utf8 c) ≡ true
-    by true low =
-        let below : c < 128 = grind (arith, nat_tests) in
-        ap is_unparted (encode_ascii c below) ∙ both (is_inner c) true (low_byte c low continues) refl
-    by false not_low = high_bytes c not_low
-
-chars_bytes : (cs : List ℕ) → list_all is_xid_continue cs ≡ true → is_unparted (encode_utf8_all cs) ≡ true
-chars_bytes [] continue = refl
-chars_bytes (c ∷ cs) continue =
-    let parts = and_parts (is_xid_continue c) (list_all is_xid_continue cs) continue in
-    list_all-append is_inner (encode_utf8 c) (encode_utf8_all cs)
-    ∙ both (is_unparted (encode_utf8 c)) (is_unparted (encode_utf8_all cs)) (char_bytes c parts.0)
-    (chars_bytes cs parts.1)
 
 -- ---- names
 
@@ -82,16 +46,17 @@ pub type_inner : (word : Text) → IsTypeWord word → is_unparted word ≡ true
 type_inner word t =
     let w = t.word in
     ap is_unparted w.spelled
-    ∙ chars_bytes (w.first ∷ w.others)
-    (both (is_xid_continue w.first) (list_all is_xid_continue w.others) (capital_continues w.first w.begun) w.continued)
+    ∙ chars_bytes is_inner high low_byte (w.first ∷ w.others)
+    (and_from (is_xid_continue w.first) (list_all is_xid_continue w.others) (capital_continues w.first w.begun)
+    w.continued)
 
 pub part_inner : (word : Text) → IsPartWord word → is_unparted word ≡ true
 part_inner word p =
     let w = p.word in
     let starts = (and_parts (is_xid_start w.first) (not (is_ascii_uppercase w.first)) w.begun).0 in
     ap is_unparted w.spelled
-    ∙ chars_bytes (w.first ∷ w.others)
-    (both (is_xid_continue w.first) (list_all is_xid_continue w.others)
+    ∙ chars_bytes is_inner high low_byte (w.first ∷ w.others)
+    (and_from (is_xid_continue w.first) (list_all is_xid_continue w.others)
     (is_xid_start-is_xid_continue w.first starts) w.continued)
 
 char_some : (c : ℕ) (rest : Text) → has_bytes (encode_utf8 c ++ rest) ≡ true
@@ -135,7 +100,7 @@ part_name word p = name_of word (word_some begins_name word p.word) (part_inner 
 pub unparted_append : (one other : Text) → is_unparted one ≡ true → is_unparted other ≡ true
     → is_unparted (one ++ other) ≡ true
 unparted_append one other a b =
-    list_all-append is_inner one other ∙ both (is_unparted one) (is_unparted other) a b
+    list_all-append is_inner one other ∙ and_from (is_unparted one) (is_unparted other) a b
 
 -- ---- lines
 
@@ -147,21 +112,21 @@ pub line_append : (one other : Text) → is_line one ≡ true → is_line other 
 line_append one other a b =
     let first = and_parts (is_utf8 one) (list_all no_feed one) a in
     let second = and_parts (is_utf8 other) (list_all no_feed other) b in
-    both (is_utf8 (one ++ other)) (list_all no_feed (one ++ other))
+    and_from (is_utf8 (one ++ other)) (list_all no_feed (one ++ other))
     (is_utf8-from_IsUtf8 (one ++ other) (IsUtf8-append one other (IsUtf8-from_is_utf8 one first.0)
     (IsUtf8-from_is_utf8 other second.0)))
-    (list_all-append no_feed one other ∙ both (list_all no_feed one) (list_all no_feed other) first.1 second.1)
+    (list_all-append no_feed one other ∙ and_from (list_all no_feed one) (list_all no_feed other) first.1 second.1)
 
 inner_no_feed : (text : Text) → is_unparted text ≡ true → list_all no_feed text ≡ true
 inner_no_feed [] inner = refl
 inner_no_feed (b ∷ bs) inner =
     let parts = and_parts (is_inner b) (is_unparted bs) inner in
-    both (no_feed b) (list_all no_feed bs) (and_parts (not (b == 32)) (not (b == 10)) parts.0).1
+    and_from (no_feed b) (list_all no_feed bs) (and_parts (not (b == 32)) (not (b == 10)) parts.0).1
     (inner_no_feed bs parts.1)
 
 pub line_of : (text : Text) → IsUtf8 text → is_unparted text ≡ true → is_line text ≡ true
 line_of text utf8 inner =
-    both (is_utf8 text) (list_all no_feed text) (is_utf8-from_IsUtf8 text utf8) (inner_no_feed text inner)
+    and_from (is_utf8 text) (list_all no_feed text) (is_utf8-from_IsUtf8 text utf8) (inner_no_feed text inner)
 
 pub type_line : (word : Text) → IsTypeWord word → is_line word ≡ true
 type_line word t = line_of word t.utf8 (type_inner word t)

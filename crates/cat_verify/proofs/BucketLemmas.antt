@@ -1,47 +1,14 @@
 -- Members that come into their buckets one by one.
-use Rattle.std.proofs.Common.{◌≡◌, ◌<◌, ◌≤◌, ℕ, zero, suc, nat_eq, Bool, true, false, List, [], ◌∷◌, ◌++◌, length}
-use Rattle.std.proofs.Common.{set, get_or, drop, replicate, refl, sym, ap, ◌∙◌, subst, arith, if◌then◌else◌}
-use Rattle.std.proofs.lemmas.List.{drop_all, get_or-set_same, get_or-set_other, append_assoc, append-nil}
+use Rattle.std.proofs.Common.{◌≡◌, ◌<◌, ◌≤◌, ℕ, nat_eq, Bool, true, false, List, [], ◌∷◌, ◌++◌, length}
+use Rattle.std.proofs.Common.{get_or, drop, replicate, refl, sym, ap, ◌∙◌, arith, if◌then◌else◌}
+use Rattle.std.proofs.lemmas.List.{drop_all, append-nil}
 use Rattle.std.proofs.lemmas.List.{get_or-replicate, get_or_past, length-replicate}
-use Rattle.std.proofs.lemmas.Bool.{cases_eq, cases_lt}
+use Rattle.std.proofs.lemmas.Bool.{cases_lt}
 use Rattle.std.proofs.lemmas.Bool.Decides.{nat_tests}
 use Rattle.std.proofs.Math.Logic.{⊎_elim}
 use Rattle.cat_scope.specs.Names.{AllHave}
 use Rattle.cat_verify.specs.declared.buckets.Member.{Member}
 use Rattle.cat_verify.specs.inside.Buckets.{numbers_of, HaveMembers, AreBuckets}
-
-pub have_at : (P : Member → Type 0) (ms : List Member) (k : ℕ) (d : Member) → AllHave P ms → k < length ms
-    → P (get_or ms k d)
-have_at P [] k d all within = absurd (omega (arith, within))
-have_at P (m ∷ ms) zero d all within = all.0
-have_at P (m ∷ ms) (suc k) d all within = have_at P ms k d all.1 (omega (arith, within))
-
-abbrev with_number : ℕ → Member → List ℕ → List ℕ
-with_number n m rest = if nat_eq m.bucket n then m.number ∷ rest else rest
-
--- a member more in its bucket
-placed : (buckets : List (List ℕ)) (m : Member) (grown : List ℕ) (n : ℕ) (rest : List ℕ) → m.bucket < length buckets
-    → grown ≡ get_or buckets m.bucket [] ++ m.number ∷ []
-    → get_or (set buckets m.bucket grown) n [] ++ rest ≡ get_or buckets n [] ++ with_number n m rest
-placed buckets m grown n rest within grows = ⊎_elim
-    (λ here. subst (λ (k : ℕ). get_or (set buckets m.bucket grown) k [] ++ rest
-    ≡ get_or buckets k [] ++ with_number k m rest) here
-    (ap (λ (ns : List ℕ). ns ++ rest) (get_or-set_same buckets m.bucket grown [] within ∙ grows)
-    ∙ append_assoc (get_or buckets m.bucket []) (m.number ∷ []) rest
-    ∙ ap (λ (ns : List ℕ). get_or buckets m.bucket [] ++ ns)
-    (same (nat_eq m.bucket m.bucket) (grind (arith, nat_tests)))))
-    (λ other. ap (λ (ns : List ℕ). ns ++ rest) (get_or-set_other buckets m.bucket n grown [] (λ e. other (sym e)))
-    ∙ ap (λ (ns : List ℕ). get_or buckets n [] ++ ns)
-    (apart (nat_eq m.bucket n) (grind (arith, nat_tests, other))))
-    (cases_eq m.bucket n)
-  where
-    same : (b : Bool) → b ≡ true → m.number ∷ rest ≡ (if b then m.number ∷ rest else rest)
-    same true e = refl
-    same false e = absurd (cc e)
-
-    apart : (b : Bool) → b ≡ false → rest ≡ (if b then m.number ∷ rest else rest)
-    apart true e = absurd (cc e)
-    apart false e = refl
 
 pub members_end : (old buckets : List (List ℕ)) (ms : List Member) (k : ℕ) → length ms ≤ k
     → ((n : ℕ) → n < length old

@@ -19,3 +19,6 @@ pub mod RoundLemmas
 pub mod PreparedLemmas
 pub mod VerifyLemmas
 pub mod UncalledLemmas
+pub mod ValidCode
+pub mod RightNumbers
+pub mod Exported

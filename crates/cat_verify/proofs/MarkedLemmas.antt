@@ -59,9 +59,6 @@ module _ (tables : Tables) (code : List Instr) (functions : List FunctionPlace) 
   abbrev owner : ℕ → Owner
   owner n = start.owner_here tables functions orderly.declared orderly.one_each n
 
-  abbrev number : Owner → ℕ
-  number o = number_of tables o
-
   abbrev scopes : ℕ
   scopes = length tables.scopes
 

@@ -116,12 +116,6 @@ times_both n (m ∷ front) back =
     let rest : times (front ++ back) n ≡ times front n + times back n = times_both n front back in
     grind (arith, nat_tests, rest)
 
-taken_in : (n k : ℕ) (ns : List ℕ) → IsOneOf n (take k ns) → IsOneOf n ns
-taken_in n zero ns one = absurd one
-taken_in n (suc k) [] one = absurd one
-taken_in n (suc k) (m ∷ ns) (inl same) = inl same
-taken_in n (suc k) (m ∷ ns) (inr more) = inr (taken_in n k ns more)
-
 pub at_front : (n k : ℕ) (front back : List ℕ) → slice_get front k ≡ Some n → slice_get (front ++ back) k ≡ Some n
 at_front n k [] back h = absurd (cc h)
 at_front n zero (m ∷ front) back h = h

@@ -1,25 +1,17 @@
 -- What marks say of stamps, and where calls send them.
-use Rattle.std.proofs.Common.{◌≡◌, ◌<◌, ◌≤◌, ◌+◌, ◌⊎◌, ℕ, nat_eq, Bool, true, false, List, [], ◌∷◌}
-use Rattle.std.proofs.Common.{◌++◌, length, map, set, get_or, replicate, Option, Some, None, refl, sym, ap, ◌∙◌, subst}
-use Rattle.std.proofs.Common.{inl, inr, arith, if◌then◌else◌, append_assoc}
-use Rattle.std.proofs.lemmas.List.{length-set, get_or-set_same, get_or-set_other}
-use Rattle.std.proofs.lemmas.List.{get_or-replicate, get_or_past, length-replicate, append-nil, map-append}
-use Rattle.std.proofs.lemmas.Option.{get_or_from_slice_get}
-use Rattle.std.proofs.lemmas.Bool.{cases_eq, cases_lt}
+use Rattle.std.proofs.Common.{◌≡◌, ◌⊎◌, ℕ, nat_eq, Bool, true, false, List}
+use Rattle.std.proofs.Common.{Option, Some, None, refl, sym, ap, ◌∙◌, subst}
+use Rattle.std.proofs.Common.{inl, inr, arith, if◌then◌else◌}
 use Rattle.std.proofs.lemmas.Bool.Decides.{nat_tests}
-use Rattle.std.proofs.Math.Logic.{⊎_elim}
 use Rattle.std.specs.Prelude.{slice_get, option_to_list}
 use Rattle.cat_scope.specs.Names.{IsOneOf}
 use Rattle.cat_code.specs.declared.instr.Instr.{Instr}
 use Rattle.cat_code.specs.declared.instr.Instr.TheVariants as instr
-use Rattle.cat_verify_shapes.specs.Belonging.{leads_on}
 use Rattle.cat_verify.specs.declared.stamps.Arrival.{Arrival}
 use Rattle.cat_verify.specs.declared.stamps.Stamps.{Stamps}
 use Rattle.cat_verify.specs.declared.stamps.Stamps.TheVariants.{Nobody, One, Two}
-use Rattle.cat_verify.specs.inside.Stamped.{ComesTo, enters, goes, called, Tells, AreStamps}
-use Rattle.cat_verify.specs.inside.Spreading.{State, with_stamp, to_each, by_call, spread_by, spread_at, spread}
-use Rattle.cat_verify.proofs.OneOf.{in_front, in_back, either_of, last_of, in_map, of_map, within_of, past_of}
-use Rattle.cat_verify.proofs.OneOf.{same_some}
+use Rattle.cat_verify.specs.inside.Stamped.{ComesTo}
+use Rattle.cat_verify.specs.inside.Spreading.{with_stamp, by_call}
 
 -- ---- what a mark says
 

@@ -1,20 +1,17 @@
 -- Code against which nothing stands is valid and tame, and each refusal has its cause in the image.
-use Rattle.std.proofs.Common.{◌≡◌, ◌<◌, ◌≤◌, ◌+◌, ◌⊎◌, ℕ, zero, suc, nat_lt, Bool, true, false, List, [], ◌∷◌}
+use Rattle.std.proofs.Common.{◌≡◌, ◌<◌, ◌≤◌, ℕ, List}
 use Rattle.std.proofs.Common.{length, map, Some, refl, sym, ap, ◌∙◌, subst, inl, inr, arith, true≢false}
 use Rattle.std.proofs.lemmas.List.{length-map}
-use Rattle.std.proofs.lemmas.Bool.Decides.{nat_tests}
-use Rattle.std.specs.Prelude.{slice_get, ◌&&◌}
-use Rattle.cat_value.proofs.Exported.{list_all_at}
+use Rattle.std.specs.Prelude.{slice_get}
 use Rattle.cat_code.specs.declared.instr.Instr.{Instr}
 use Rattle.cat_code.specs.declared.code.Code.{Code}
 use Rattle.cat_code.specs.declared.code.Tables.{Tables}
-use Rattle.cat_code.specs.Jumps.{jump_of, is_within}
 use Rattle.cat_code.specs.Places as places
 use Rattle.cat_code.specs.Places.{function_places}
 use Rattle.cat_code.specs.Shapes.{Owner}
-use Rattle.cat_code.specs.Tame.{is_forward, AreForward, IsCallOf, LeadTo}
+use Rattle.cat_code.specs.Tame.{AreForward, IsCallOf, LeadTo}
 use Rattle.cat_code.specs.Tame as to
-use Rattle.cat_code.specs.Valid.{keeps_rules, keep_rules, entries_of, places_entered, IsValid}
+use Rattle.cat_code.specs.Valid.{IsValid}
 use Rattle.cat_image.specs.declared.image.Image.{Image}
 use Rattle.cat_verify_tables.specs.declared.tables.Told.{Told}
 use Rattle.cat_verify_tables.specs.declared.places.FunctionPlace.{FunctionPlace}
@@ -25,6 +22,7 @@ use Rattle.cat_verify_shapes.specs.Unshaped.{HasOwnShapes, IsUnshaped}
 use Rattle.cat_verify_shapes.specs.Unshaped as shapes
 use Rattle.cat_verify_shapes.specs.declared.refusal.ShapeRefusal.{ShapeRefusal}
 use Rattle.cat_verify_shapes.specs.declared.refusal.ShapeRefusal.TheVariants as shape_refusal
+use Rattle.cat_verify_shapes.proofs.Exported.{forward_there}
 use Rattle.cat_verify_tables.specs.declared.refusal.TableRefusal.{TableRefusal}
 use Rattle.cat_verify_tables.specs.declared.refusal.TableRefusal.TheVariants as table_refusal
 use Rattle.cat_verify_tables.specs.WrongTables as tables
@@ -33,14 +31,15 @@ use Rattle.cat_verify.specs.declared.refusal.VerifyRefusal.TheVariants as refusa
 use Rattle.cat_verify.specs.OfParts.{of_tables, of_shapes}
 use Rattle.cat_verify.specs.Refused.{IsToldBy, IsNumbered, IsEnding, HasCause}
 use Rattle.cat_verify.specs.Told.{IsVerified}
-use Rattle.cat_verify.specs.WrongCode.{NamesWrongly, BeginsOutside, IsUndeclared, CallsAbroad, IsBadNumber}
+use Rattle.cat_verify.specs.WrongCode.{BeginsOutside, IsUndeclared, CallsAbroad, IsBadNumber}
 use Rattle.cat_verify.specs.WrongCode.{LeadOn, IsEndless}
 use Rattle.cat_verify.specs.WrongCode as on
 use Rattle.cat_verify.specs.inside.GoodNumbers.{NumbersCause}
 use Rattle.cat_verify.specs.inside.Jumping.{BackCause}
 use Rattle.cat_verify.specs.inside.Orderly.{IsOrderly, AreCallsHome, SurplusCause, AbroadCause, OwnersCause, AreApart}
 use Rattle.cat_verify.specs.inside.Verifying.{IsPrepared, IsRight, Ends, IsGood, NumberedCause, CodeCause}
-use Rattle.cat_verify.proofs.OneOf.{at_of_in, in_back, in_at, within_of, same_some}
+use Rattle.cat_verify.proofs.RightNumbers.{none_bad}
+use Rattle.cat_verify.proofs.OneOf.{in_back, in_at, same_some}
 
 -- ---- a function too many
 
@@ -108,63 +107,9 @@ module _ (ts : Tables) (code : List Instr) where
 
 -- ---- numbers that name what is there
 
-rule_at : (tables : Tables) (code : List Instr) (places : List ℕ) (p : ℕ) (is : List Instr) (k : ℕ) (i : Instr)
-    → keep_rules tables code places p is ≡ true → slice_get is k ≡ Some i
-    → keeps_rules tables code places (p + k) i ≡ true
-rule_at tables code places p [] k i keep there = absurd (cc there)
-rule_at tables code places p (x ∷ is) zero i keep there =
-    let here : p ≡ p + 0 = omega arith in
-    subst (λ (n : ℕ). keeps_rules tables code places n i ≡ true) here
-    (subst (λ (j : Instr). keeps_rules tables code places p j ≡ true) (same there)
-    (first (keeps_rules tables code places p x) (keep_rules tables code places (p + 1) is) keep))
-  where
-    same : Some x ≡ Some i → x ≡ i
-    same e = cc e
-
-    first : (a b : Bool) → (a && b) ≡ true → a ≡ true
-    first true b h = refl
-    first false b h = absurd (cc h)
-rule_at tables code places p (x ∷ is) (suc k) i keep there =
-    let next : p + 1 + k ≡ p + suc k = omega arith in
-    subst (λ (n : ℕ). keeps_rules tables code places n i ≡ true) next
-    (rule_at tables code places (p + 1) is k i
-    (second (keeps_rules tables code places p x) (keep_rules tables code places (p + 1) is) keep) there)
-  where
-    second : (a b : Bool) → (a && b) ≡ true → b ≡ true
-    second true b h = h
-    second false b h = absurd (cc h)
-
 module _ (ts : Tables) (code : List Instr) (functions : List FunctionPlace) (types : List ℕ)
     (is : IsPrepared ts code functions types) (orderly : IsOrderly ts code functions)
     (home : AreCallsHome ts code) where
-  not_wrong : (k : ℕ) → NamesWrongly ts code k → ⊥
-  not_wrong k wrong = by wrong.wrong
-    where
-      by : (is_within ts (length code) wrong.instruction ≡ false)
-          ⊎ (keeps_rules ts code (places_entered ts code) k wrong.instruction ≡ false) → ⊥
-      by (inl outside) = true≢false (sym (list_all_at (is_within ts (length code)) code k wrong.instruction
-          orderly.good.numbers wrong.is) ∙ outside)
-      by (inr broken) =
-          let here : 0 + k ≡ k = omega arith in
-          true≢false (sym (subst (λ (n : ℕ). keeps_rules ts code (places_entered ts code) n wrong.instruction ≡ true)
-          here (rule_at ts code (places_entered ts code) 0 code k wrong.instruction orderly.good.rules wrong.is))
-          ∙ broken)
-
-  not_outside : (k : ℕ) → BeginsOutside ts code k → ⊥
-  not_outside k outside =
-      let at = at_of_in (entries_of ts) outside.entry outside.is_entry in
-      let inside : nat_lt outside.entry (length code) ≡ true =
-      list_all_at (λ place. nat_lt place (length code)) (entries_of ts) at.0 outside.entry orderly.good.entries at.1 in
-      let past = outside.outside in
-      grind (arith, nat_tests, inside, past)
-
-  not_undeclared : (k : ℕ) → IsUndeclared ts code k → ⊥
-  not_undeclared k surplus =
-      let within : surplus.function < length ts.functions =
-      within_of ts.functions surplus.function k surplus.entry_is in
-      let past = surplus.undeclared in
-      omega (arith, within, past, orderly.one_each)
-
   not_abroad : (k : ℕ) → CallsAbroad ts code k → ⊥
   not_abroad k abroad =
       let own = home k abroad.function abroad.count abroad.caller abroad.comes abroad.is in
@@ -173,10 +118,7 @@ module _ (ts : Tables) (code : List Instr) (functions : List FunctionPlace) (typ
       abroad.abroad (ap (λ (x : places.FunctionPlace). x.scope) same ∙ own.scope_is)
 
   pub right : IsRight ts code
-  right k (inl wrong) = not_wrong k wrong
-  right k (inr (inl outside)) = not_outside k outside
-  right k (inr (inr (inl surplus))) = not_undeclared k surplus
-  right k (inr (inr (inr abroad))) = not_abroad k abroad
+  right = none_bad ts code orderly.good orderly.one_each not_abroad
 
   pub back_cause : (why : VerifyRefusal) → BackCause code why → CodeCause ts code why
   back_cause (refusal.Endless k) back = (right, inl back)
@@ -194,26 +136,10 @@ module _ (ts : Tables) (code : List Instr) (functions : List FunctionPlace) (typ
 
   -- ---- runs that end
 
-  forward_at : (p : ℕ) (js : List Instr) (k : ℕ) (i : Instr) → AreForward code p js → slice_get js k ≡ Some i
-      → is_forward code (p + k) i (jump_of i) ≡ true
-  forward_at p [] k i forward at = absurd (cc at)
-  forward_at p (j ∷ js) zero i forward at =
-      let here : p ≡ p + 0 = omega arith in
-      subst (λ (n : ℕ). is_forward code n i (jump_of i) ≡ true) here
-      (subst (λ (x : Instr). is_forward code p x (jump_of x) ≡ true) (same at) forward.0)
-    where
-      same : Some j ≡ Some i → j ≡ i
-      same e = cc e
-  forward_at p (j ∷ js) (suc k) i forward at =
-      let next : p + 1 + k ≡ p + suc k = omega arith in
-      subst (λ (n : ℕ). is_forward code n i (jump_of i) ≡ true) next (forward_at (p + 1) js k i forward.1 at)
-
   module _ (forward : AreForward code 0 code) (apart : AreApart ts code) where
     pub ends : Ends ts code
     ends k (inl back) =
-        let here : 0 + k ≡ k = omega arith in
-        true≢false (sym (subst (λ (n : ℕ). is_forward code n back.instruction (jump_of back.instruction) ≡ true) here
-        (forward_at 0 code k back.instruction forward back.is)) ∙ back.back)
+        true≢false (sym (forward_there code k back.instruction forward back.is) ∙ back.back)
     ends k (inr other) = apart k other
 
     pub settled : IsSettled ts code

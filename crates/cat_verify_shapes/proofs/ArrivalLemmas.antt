@@ -1,5 +1,5 @@
 -- What is known when a shape has come to a place, and when a place was looked at.
-use Rattle.std.proofs.Common.{◌≡◌, ◌⊎◌, ◌<◌, inl, inr, ℕ, ◌+◌, true, false, true≢false, List, [], ◌∷◌, ◌++◌}
+use Rattle.std.proofs.Common.{◌≡◌, ◌⊎◌, ◌<◌, inl, inr, ℕ, ◌+◌, false, true≢false, List, [], ◌∷◌, ◌++◌}
 use Rattle.std.proofs.Common.{length, Option, Some}
 use Rattle.std.proofs.Common.{None, slice_get, slice_set, refl, sym, ap, ◌∙◌, subst}
 use Rattle.std.proofs.lemmas.Option.{slice_get_within}
@@ -14,7 +14,6 @@ use Rattle.cat_code.specs.Flow.{flow}
 use Rattle.cat_code.specs.Tame.{is_next}
 use Rattle.cat_verify_shapes.specs.Belonging.{Belongs, MayRun, MayComeTo, called}
 use Rattle.cat_verify_shapes.specs.declared.shape.Shape.{Shape}
-use Rattle.cat_verify_shapes.specs.declared.leads.Leads.TheVariants as leads
 use Rattle.cat_verify_shapes.specs.declared.found.Spot.{Spot}
 use Rattle.cat_verify_shapes.specs.declared.found.Spot.TheVariants as spot
 use Rattle.cat_verify_shapes.specs.inside.Senses.{Senses}

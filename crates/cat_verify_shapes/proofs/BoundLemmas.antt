@@ -1,12 +1,12 @@
 -- Shapes that fit code bound those that are found: where these are stuck, none fit.
-use Rattle.std.proofs.Common.{◌≡◌, ℕ, zero, suc, ◌+◌, List, [], ◌∷◌, Some, None, slice_get, refl, sym}
+use Rattle.std.proofs.Common.{◌≡◌, ℕ, List, [], ◌∷◌, Some, None, slice_get, refl, sym}
 use Rattle.std.proofs.Common.{ap}
-use Rattle.std.proofs.Common.{◌∙◌, subst, arith}
+use Rattle.std.proofs.Common.{◌∙◌, subst}
 use Rattle.cat_scope.specs.Names.{AllHave}
 use Rattle.cat_code.specs.declared.instr.Instr.{Instr}
 use Rattle.cat_code.specs.declared.code.Tables.{Tables}
 use Rattle.cat_code.specs.Shapes.{Shape, Meets}
-use Rattle.cat_code.specs.Shaped.{Shapes, IsMet, FineAt, IsFine, AreFine, IsShapedBy}
+use Rattle.cat_code.specs.Shaped.{Shapes, IsMet, IsFine, IsShapedBy}
 use Rattle.cat_code.specs.Leads.{Flow}
 use Rattle.cat_code.specs.Flow.{flow}
 use Rattle.cat_verify_shapes.proofs.ListLemmas.{none_some, some_is}
@@ -14,25 +14,9 @@ use Rattle.cat_verify_shapes.proofs.MeetingLemmas.{meets_then}
 use Rattle.cat_verify_shapes.proofs.LessKnown.{AllNext, FlowMeets}
 use Rattle.cat_verify_shapes.proofs.FlowLemmas.{less_known}
 use Rattle.cat_verify_shapes.proofs.CommonLemmas.{Alike, alike_of, common_of, common_greatest}
+use Rattle.cat_verify_shapes.proofs.FineLemmas.{fine_there}
 
 module _ (tables : Tables) (code : List Instr) (fit : Shapes) where
-  fine_at : (q : ℕ) (is : List Instr) (ss : Shapes) → AreFine tables code fit q is ss → (n : ℕ) (i : Instr) (s : Shape)
-      → slice_get is n ≡ Some i → slice_get ss n ≡ Some (Some s) → IsFine tables code fit i (q + n) s
-  fine_at q [] ss fine n i s e f = absurd (none_some i e)
-  fine_at q (j ∷ is) [] fine n i s e f = absurd (none_some (Some s) f)
-  fine_at q (j ∷ is) (o ∷ ss) fine zero i s e f =
-      subst (λ (m : ℕ). IsFine tables code fit i m s) (here_is q)
-      (subst (λ (k : Instr). IsFine tables code fit k q s) (some_is j i e)
-      (subst (FineAt tables code fit j q) (some_is o (Some s) f) fine.0))
-    where
-      here_is : (q : ℕ) → q ≡ q + zero
-      here_is q = omega arith
-  fine_at q (j ∷ is) (o ∷ ss) fine (suc n) i s e f =
-      subst (λ (m : ℕ). IsFine tables code fit i m s) (next_is q n) (fine_at (q + 1) is ss fine.1 n i s e f)
-    where
-      next_is : (q n : ℕ) → q + 1 + n ≡ q + suc n
-      next_is q n = omega arith
-
   -- some shape of a place is met by a shape that leads there
   abbrev pub IsBound : ℕ × Shape → Type 0
   IsBound next = IsMet fit next.0 next.1
@@ -63,13 +47,8 @@ module _ (tables : Tables) (code : List Instr) (fit : Shapes) where
       (subst (FlowMeets (flow tables code i p s)) fine.flows (less_known tables code i p s met.shape met.meets))
       fine.met
     where
-      at_is : (n : ℕ) → zero + n ≡ n
-      at_is n = omega arith
-
       fine : IsFine tables code fit i p met.shape
-      fine =
-          subst (λ (m : ℕ). IsFine tables code fit i m met.shape) (at_is p)
-          (fine_at zero code fit shaped.fine p i met.shape is met.is)
+      fine = fine_there tables code fit shaped p i met.shape is met.is
 
   -- where one is stuck, these don't fit
   pub stuck_refutes : IsShapedBy tables code fit → (p : ℕ) (i : Instr) (s : Shape) → slice_get code p ≡ Some i

@@ -1,8 +1,8 @@
 -- What loops of calls keep: the types of parameters, the operands of these types, and the inputs that are passed.
-use Rattle.std.proofs.Common.{◌≡◌, ◌<◌, ◌≤◌, inl, inr, ℕ, zero, suc, ◌+◌, ◌-◌, ◌&&◌, Bool, true, false, not}
+use Rattle.std.proofs.Common.{◌≡◌, ◌<◌, ◌≤◌, inl, inr, ℕ, zero, suc, ◌+◌, ◌&&◌, Bool, true, false, not}
 use Rattle.std.proofs.Common.{true≢false, List, [], ◌∷◌, ◌++◌, length, map, take, drop, reverse, get_or}
 use Rattle.std.proofs.Common.{refl, sym, ap, ◌∙◌, arith}
-use Rattle.std.proofs.lemmas.Bool.{eq-eqb}
+use Rattle.std.proofs.lemmas.Bool.{eq-eqb, and_right}
 use Rattle.std.proofs.lemmas.List.{take_more, drop_more, drop_all, map-append, reverse-append, append_assoc}
 use Rattle.std.proofs.lemmas.List.{take-append-drop}
 use Rattle.cat_value.specs.declared.ty.Ty.{Ty}
@@ -17,6 +17,7 @@ use Rattle.cat_verify_shapes.specs.declared.shape.Shape.{Shape}
 use Rattle.cat_verify_shapes.specs.inside.Senses.{Stands}
 use Rattle.cat_verify_shapes.specs.inside.Taking.{Takes, TakesAll, StandFor}
 use Rattle.cat_verify_shapes.proofs.ListLemmas.{head_is, empty_not}
+use Rattle.cat_verify_shapes.proofs.PopLemmas.{rev_cons}
 
 -- ---- types of parameters
 
@@ -37,9 +38,6 @@ forms_more ds forms params i t ns more n within at stand stands is d h =
     ∙ ap (map (form_of ds)) (sym (take_more params i t within))
 
 -- ---- operands of these types
-
-rev_cons : (x : ℕ) (xs : List ℕ) → reverse (x ∷ xs) ≡ reverse xs ++ x ∷ []
-rev_cons x xs = reverse-append (x ∷ []) xs
 
 none_dropped : (ns : List ℕ) (k : ℕ) → length ns ≤ k → reverse (drop k ns) ≡ []
 none_dropped ns k h = ap reverse (drop_all k ns h)
@@ -102,17 +100,13 @@ popping_fails s r q ns k j n e within at is takes below whole =
 
 -- ---- inputs that are passed
 
-second_not : (a b : Bool) → b ≡ false → (a && b) ≡ false
-second_not true b e = e
-second_not false b e = refl
-
 pub too_few_passed : (items : List ItemDecl) (passed : List Bool) → length passed < length items
     → are_passed items passed ≡ false
 too_few_passed [] passed h = absurd (omega (arith, h))
 too_few_passed (item ∷ items) [] h = refl
 too_few_passed (item ∷ items) (true ∷ passed) h = too_few_passed items passed (omega (arith, h))
 too_few_passed (item ∷ items) (false ∷ passed) h =
-    second_not (not (must_be_given item.kind)) (are_passed items passed)
+    and_right (not (must_be_given item.kind)) (are_passed items passed)
     (too_few_passed items passed (omega (arith, h)))
 
 passed_more : (item : ItemDecl) (items : List ItemDecl) (b : Bool) (passed : List Bool)

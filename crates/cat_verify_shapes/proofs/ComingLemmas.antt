@@ -3,7 +3,7 @@ use Rattle.std.proofs.Common.{◌≡◌, ◌⊎◌, inl, inr, ℕ, suc, ◌+◌,
 use Rattle.std.proofs.Common.{Some}
 use Rattle.std.proofs.Common.{refl, sym, ap, ◌∙◌, subst, arith}
 use Rattle.std.proofs.lemmas.List.{length-append}
-use Rattle.cat_code.specs.Shapes.{FrameShape, PendingShape, Shape, AllMeet}
+use Rattle.cat_code.specs.Shapes.{FrameShape, PendingShape, Shape}
 use Rattle.cat_code.specs.Shaped.{Shapes}
 use Rattle.cat_verify_shapes.specs.inside.Zipped.{zipped, both}
 use Rattle.cat_verify_shapes.specs.inside.Turns.{IsInside, HasTurn, HaveTurns}
@@ -12,6 +12,7 @@ use Rattle.cat_verify_shapes.proofs.CommonLemmas.{AlikeFrames, AlikePending, Ali
 use Rattle.cat_verify_shapes.proofs.CommonLemmas.{common_of}
 use Rattle.cat_verify_shapes.proofs.CommonLemmas.{both_greatest}
 use Rattle.cat_verify_shapes.proofs.TurnLemmas.{BeginsNow, IsComing}
+use Rattle.cat_verify_shapes.proofs.FrontLemmas.{meet_long}
 
 zipped_behind : {A : Type 0} (f : A → A → A) → ((x : A) → f x x ≡ x) → (xs ys zs : List A) → length xs ≡ length ys
     → zipped f (xs ++ zs) (ys ++ zs) ≡ zipped f xs ys ++ zs
@@ -38,12 +39,6 @@ frame_same f = ap (λ (b : Bool). record f { checked = b }) (and_same f.checked)
 wait_same : (p : PendingShape) → both_pending p p ≡ p
 wait_same p = ap (λ (bs : List Bool). record p { passed = bs }) (flags_same p.passed)
 
-meets_long : {A : Type 0} (Meets : A → A → Type 0) (xs ys : List A) → AllMeet Meets xs ys → length xs ≡ length ys
-meets_long Meets [] [] h = refl
-meets_long Meets [] (y ∷ ys) h = absurd h
-meets_long Meets (x ∷ xs) [] h = absurd h
-meets_long Meets (x ∷ xs) (y ∷ ys) h = ap suc (meets_long Meets xs ys h.1)
-
 zipped_long : {A : Type 0} (f : A → A → A) (xs ys : List A) → length xs ≡ length ys
     → length (zipped f xs ys) ≡ length ys
 zipped_long f [] [] e = refl
@@ -69,11 +64,11 @@ inside_common turn k s one other alike = record {
   frames =
       zipped_fronts both_frames frame_same k.defaults s.defaults one.tops other.tops turn.defaults one.frames
       other.frames
-      (meets_long AlikeFrames k.defaults s.defaults alike.defaults);
+      (meet_long AlikeFrames k.defaults s.defaults alike.defaults);
   waits = zipped both_pending one.waits other.waits;
   pending =
       zipped_fronts both_pending wait_same k.pending s.pending one.waits other.waits turn.pending one.pending
-      other.pending (meets_long AlikePending k.pending s.pending alike.pending);
+      other.pending (meet_long AlikePending k.pending s.pending alike.pending);
   filled = both_greatest turn.filled k.filled s.filled one.filled other.filled;
   inners = one.inners;
   loops = one.loops;
@@ -114,9 +109,9 @@ module _ (shapes : Shapes) (Looked : ℕ → Type 0) where
         behind = now.behind;
         top = now.top;
         frames =
-            zipped_long both_frames k.defaults s.defaults (meets_long AlikeFrames k.defaults s.defaults alike.defaults)
+            zipped_long both_frames k.defaults s.defaults (meet_long AlikeFrames k.defaults s.defaults alike.defaults)
             ∙ now.frames;
         pending =
-            zipped_long both_pending k.pending s.pending (meets_long AlikePending k.pending s.pending alike.pending)
+            zipped_long both_pending k.pending s.pending (meet_long AlikePending k.pending s.pending alike.pending)
             ∙ now.pending;
       }

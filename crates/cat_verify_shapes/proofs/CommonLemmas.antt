@@ -2,10 +2,11 @@
 use Rattle.std.proofs.Common.{◌≡◌, ◌&&◌, Bool, true, false, List, [], ◌∷◌, length, refl, sym}
 use Rattle.std.proofs.Common.{◌∙◌}
 use Rattle.std.proofs.Common.{arith}
+use Rattle.std.proofs.lemmas.Bool.{and_from}
 use Rattle.cat_code.specs.Shapes.{FrameShape, PendingShape, Shape, AreFewer, MeetsFrame, MeetsPending}
 use Rattle.cat_code.specs.Shapes.{AllMeet, Meets}
 use Rattle.cat_verify_shapes.specs.inside.Zipped.{zipped, both}
-use Rattle.cat_verify_shapes.proofs.LessKnown.{both_join, fewer_long}
+use Rattle.cat_verify_shapes.proofs.LessKnown.{fewer_long}
 
 abbrev pub both_frames : FrameShape → FrameShape → FrameShape
 both_frames f g = record { begun = f.begun; holds = f.holds; checked = f.checked && g.checked }
@@ -63,7 +64,7 @@ both_greatest (true ∷ ws) [] ys h k = absurd h
 both_greatest (false ∷ ws) [] ys h k = absurd h
 both_greatest (true ∷ ws) (x ∷ xs) [] h k = absurd k
 both_greatest (false ∷ ws) (x ∷ xs) [] h k = absurd k
-both_greatest (true ∷ ws) (x ∷ xs) (y ∷ ys) h k = (both_join x y h.0 k.0, both_greatest ws xs ys h.1 k.1)
+both_greatest (true ∷ ws) (x ∷ xs) (y ∷ ys) h k = (and_from x y h.0 k.0, both_greatest ws xs ys h.1 k.1)
 both_greatest (false ∷ ws) (x ∷ xs) (y ∷ ys) h k = both_greatest ws xs ys h k
 
 -- ---- frames

@@ -1,5 +1,5 @@
 -- What comparisons of counts and of numbers tell.
-use Rattle.std.proofs.Common.{◌≡◌, ◌<◌, ◌≤◌, ℕ, nat_eq, nat_lt, Bool, true, false, not, refl, sym, ◌∙◌, subst}
+use Rattle.std.proofs.Common.{◌≡◌, ◌<◌, ◌≤◌, ℕ, nat_eq, nat_lt, Bool, true, false, refl, sym, ◌∙◌, subst}
 use Rattle.std.proofs.lemmas.Bool.{eq-eqb, eqb-true}
 use Rattle.cat_verify_shapes.proofs.StepLemmas.{lt_so, lt_not}
 
@@ -33,12 +33,3 @@ count_so a n count e h = same_so count a (sym e ∙ h)
 
 pub count_not : (a n count : ℕ) → n ≡ count → (n ≡ a → ⊥) → nat_eq count a ≡ false
 count_not a n count e other = same_not count a (λ h. other (e ∙ h))
-
--- what is told of what isn't so
-pub off_by_not : (b : Bool) → not b ≡ true → b ≡ false
-off_by_not false e = refl
-off_by_not true e = sym e
-
-pub on_by_not : (b : Bool) → not b ≡ false → b ≡ true
-on_by_not false e = sym e
-on_by_not true e = refl

@@ -4,7 +4,7 @@ use Rattle.std.proofs.Common.{◌∷◌}
 use Rattle.std.proofs.Common.{length, map, Option, Some, None, slice_get, refl, sym, ap, ◌∙◌, arith}
 use Rattle.std.proofs.Common.{true≢false}
 use Rattle.std.proofs.lemmas.Bool.Decides.{nat_tests}
-use Rattle.std.proofs.lemmas.Bool.{eqb-true}
+use Rattle.std.proofs.lemmas.Bool.{eqb-true, and_left}
 use Rattle.std.specs.Prelude.{Ok, Err}
 use Rattle.cat_code.specs.declared.instr.Instr.TheVariants as instr
 use Rattle.cat_code.specs.declared.code.TargetEntry.{TargetEntry}
@@ -32,9 +32,6 @@ lt_le a n e = grind (arith, nat_tests)
 
 not_lt_le : (a n : ℕ) → nat_lt a n ≡ false → nat_le n a ≡ true
 not_lt_le a n e = grind (arith, nat_tests)
-
-and_not : (a b : Bool) → a ≡ false → (a && b) ≡ false
-and_not a b e = ap (λ (x : Bool). x && b) e
 
 and_is : (a b c : Bool) → a ≡ true → b ≡ c → (a && b) ≡ c
 and_is a b c e f = ap (λ (x : Bool). x && b) e ∙ f
@@ -106,7 +103,7 @@ module _ (tables : Tables) (forms : Forms) (p : ℕ) where
   hold_nowhere s n e = λ d h.
       where_not (nat_lt n (length tables.definitions) && frames_inside 1 (shape_of d s).loops (shape_of d s).defaults)
       (held_on d s)
-      (and_not (nat_lt n (length tables.definitions))
+      (and_left (nat_lt n (length tables.definitions))
       (frames_inside 1 (shape_of d s).loops (shape_of d s).defaults) e)
 
   pub hold_outside : (s : Shape) (n : ℕ) → nat_lt n (length tables.definitions) ≡ true
@@ -174,7 +171,7 @@ module _ (tables : Tables) (forms : Forms) (p : ℕ) where
   check_nowhere s n e = λ d h.
       where_not (nat_lt n (length tables.targets) && frames_inside 1 (shape_of d s).loops (shape_of d s).defaults)
       (checked_on d s)
-      (and_not (nat_lt n (length tables.targets)) (frames_inside 1 (shape_of d s).loops (shape_of d s).defaults) e)
+      (and_left (nat_lt n (length tables.targets)) (frames_inside 1 (shape_of d s).loops (shape_of d s).defaults) e)
 
   pub check_outside : (s : Shape) (n : ℕ) → nat_lt n (length tables.targets) ≡ true
       → nat_lt (own_frames s) 1 ≡ true → Tells tables forms (Err stuck.Bad) (flow tables [] (instr.Check n) p) s
@@ -258,7 +255,7 @@ module _ (tables : Tables) (forms : Forms) (p : ℕ) where
       merged d s r q f g inside is then_is
       ∙ where_not (f.checked && same_form (d.one f.holds) (d.one g.holds))
       (leads (p + 1) (shape_of d (with_frame g false q)))
-      (and_not f.checked (same_form (d.one f.holds) (d.one g.holds)) e)
+      (and_left f.checked (same_form (d.one f.holds) (d.one g.holds)) e)
 
   pub merge_unlike : (s r q : Shape) (f g : FrameShape) → nat_lt (own_frames s) 2 ≡ false
       → s ≡ record r { defaults = f ∷ r.defaults } → r ≡ record q { defaults = g ∷ q.defaults } → f.checked ≡ true

@@ -1,16 +1,15 @@
--- What holds of all places to which a flow leads, by the combinations of flows.
+-- What holds of the places to which a flow leads, by the combinations of flows.
 use Rattle.std.proofs.Common.{◌≡◌, ℕ, zero, suc, Bool, true, false, List, [], ◌∷◌, Option, Some, None, refl}
-use Rattle.cat_scope.specs.Names.{AllHave}
 use Rattle.cat_code.specs.Forms.{Form, Forms, Many, Fields, same_form}
 use Rattle.cat_code.specs.Shapes.{Shape}
 use Rattle.cat_code.specs.Leads.{Flow, leads, with, where_so, top, pushed, pop, pop_as, popped, elements_of, fields_of}
 use Rattle.cat_code.specs.Told.{collected_by}
 
-module _ (Holds : ℕ × Shape → Type 0) where
-  -- each place with its shape has it
+module _ (Lead : List (ℕ × Shape) → Type 0) where
+  -- where it goes on, this holds of the places with the shapes that are left there
   abbrev pub FlowAll : Flow → Type 0
   FlowAll None = Unit {0}
-  FlowAll (Some to) = AllHave Holds to
+  FlowAll (Some to) = Lead to
 
   pub with_all : {A : Type 0} (o : Option A) (go : A → Flow) → ((a : A) → FlowAll (go a)) → FlowAll (with o go)
   with_all None go h = tt
@@ -54,7 +53,7 @@ module _ (Holds : ℕ × Shape → Type 0) where
   collected_all None go h = tt
   collected_all (Some t) go h = elements_all t go h
 
-  pub gives_all : (o : Option Form) (q : ℕ) (s : Shape) → ((t : Form) → Holds (q, pushed t s))
+  pub gives_all : (o : Option Form) (q : ℕ) (s : Shape) → ((t : Form) → Lead ((q, pushed t s) ∷ []))
       → FlowAll (with o (λ t. leads q (pushed t s)))
   gives_all None q s h = tt
-  gives_all (Some t) q s h = (h t, tt)
+  gives_all (Some t) q s h = h t

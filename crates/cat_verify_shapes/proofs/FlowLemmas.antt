@@ -3,6 +3,7 @@ use Rattle.std.proofs.Common.{◌≡◌, ℕ, zero, suc, ◌+◌, ◌-◌, nat_e
 use Rattle.std.proofs.Common.{◌∷◌}
 use Rattle.std.proofs.Common.{◌++◌, length, take, Option, Some, None, slice_get, slice_set, refl, sym, ap, ◌∙◌, subst}
 use Rattle.std.specs.Prelude.{is_none, replicate}
+use Rattle.std.proofs.lemmas.Bool.{and_from, and_parts}
 use Rattle.cat_value.specs.declared.ty.Ty.{Ty}
 use Rattle.cat_value.specs.declared.declaration.Scope.{Scope}
 use Rattle.cat_value.specs.Entries.{content_of}
@@ -24,12 +25,12 @@ use Rattle.cat_code.specs.Leads.{elements_of, fields_of, operated, begins, loop_
 use Rattle.cat_code.specs.Told.{case_asked, collected_by, constant_form, result_form, is_scope}
 use Rattle.cat_code.specs.Flow.{flow}
 use Rattle.cat_verify_shapes.proofs.LessKnown.{FlowMeets, fewer_so, fewer_set, fewer_long, fewer_checked}
-use Rattle.cat_verify_shapes.proofs.LessKnown.{fewer_passed, frames_long, pending_long, frames_in, no_frames}
+use Rattle.cat_verify_shapes.proofs.LessKnown.{fewer_passed, frames_in, no_frames}
 use Rattle.cat_verify_shapes.proofs.LessKnown.{no_pending}
 use Rattle.cat_verify_shapes.proofs.LessKnown.{pending_in, with_meets, where_meets, where_same, top_meets}
 use Rattle.cat_verify_shapes.proofs.LessKnown.{elements_meet}
-use Rattle.cat_verify_shapes.proofs.LessKnown.{fields_meet, collected_meet, both_first}
-use Rattle.cat_verify_shapes.proofs.LessKnown.{both_second, both_join}
+use Rattle.cat_verify_shapes.proofs.LessKnown.{fields_meet, collected_meet}
+use Rattle.cat_verify_shapes.proofs.FrontLemmas.{meet_long}
 
 -- two shapes that agree but in what is known: of the first one more
 record Pair : Type 0 where
@@ -92,9 +93,6 @@ to_next k h p = (refl, meets k h, tt)
 to_two : (k l : Pair) → Known k → Known l → (p q : ℕ)
     → FlowMeets (leads_two p (left k) q (left l)) (leads_two p (right k) q (right l))
 to_two k l h m p q = (refl, meets k h, (refl, meets l m, tt))
-
-gives : Option Form → ℕ → Shape → Flow
-gives o p s = with o (λ t. leads (p + 1) (pushed t s))
 
 gives_meet : (o : Option Form) (p : ℕ) (k : Pair) → Known k
     → FlowMeets (with o (λ t. leads (p + 1) (pushed t (left k)))) (with o (λ t. leads (p + 1) (pushed t (right k))))
@@ -163,8 +161,8 @@ begins_meets p t collected k h = (
     filled = h.0;
     defaults = h.1;
     loops = ap (λ (l : LoopShape). l ∷ k.loops) (same_loop p t collected (length k.defaults) (length k.frames)
-        (length k.pending) (length k.waiting) (frames_long k.defaults k.frames h.1)
-        (pending_long k.pending k.waiting h.2));
+        (length k.pending) (length k.waiting) (meet_long MeetsFrame k.defaults k.frames h.1)
+        (meet_long MeetsPending k.pending k.waiting h.2));
     pending = h.2;
   },
   tt,
@@ -379,9 +377,6 @@ enter_meets tables p k h (r ∷ ps) (q ∷ qs) m =
       waiting = qs;
     })) (h.0, h.1, m.1) (p + 1)))
 
-bare : Shape → Bool
-bare s = has_none s.operands && has_none s.defaults && has_none s.loops && has_none s.pending
-
 return_meets : (result : Option Form) (k : Pair) → Known k
     → FlowMeets
     (with result (λ t. pop_as t (left k) (λ s. where_so
@@ -482,10 +477,10 @@ merge_meets p k h (f ∷ a ∷ fs) (g ∷ b ∷ gs) m =
     where_meets (f.checked && same_form f.holds a.holds) (g.checked && same_form g.holds b.holds)
     (leads (p + 1) (record (left k) { defaults = record a { checked = false } ∷ fs }))
     (leads (p + 1) (record (right k) { defaults = record b { checked = false } ∷ gs }))
-    (λ e. both_join f.checked (same_form f.holds a.holds)
-    (fewer_checked f.checked g.checked m.0.checked (both_first g.checked (same_form g.holds b.holds) e))
+    (λ e. and_from f.checked (same_form f.holds a.holds)
+    (fewer_checked f.checked g.checked m.0.checked (and_parts g.checked (same_form g.holds b.holds) e).0)
     (ap (λ (t : Form). same_form t a.holds) m.0.holds ∙ ap (same_form g.holds) m.1.0.holds
-    ∙ both_second g.checked (same_form g.holds b.holds) e))
+    ∙ (and_parts g.checked (same_form g.holds b.holds) e).1))
     (with_flag false (p + 1) k h a b fs gs m.1.0 m.1.1)
 
 check_meets : (p : ℕ) (k : Pair) → Known k → (fs gs : List FrameShape) → AllMeet MeetsFrame fs gs
@@ -526,9 +521,9 @@ take_meets p t k h (f ∷ fs) (g ∷ gs) m =
 inside_too : (b : Bool) (k : Pair) → Known k → (b && frames_inside 1 k.loops k.frames) ≡ true
     → (b && frames_inside 1 k.loops k.defaults) ≡ true
 inside_too b k h e =
-    both_join b (frames_inside 1 k.loops k.defaults) (both_first b (frames_inside 1 k.loops k.frames) e)
-    (frames_in 1 k.loops k.defaults k.frames (frames_long k.defaults k.frames h.1)
-    (both_second b (frames_inside 1 k.loops k.frames) e))
+    and_from b (frames_inside 1 k.loops k.defaults) (and_parts b (frames_inside 1 k.loops k.frames) e).0
+    (frames_in 1 k.loops k.defaults k.frames (meet_long MeetsFrame k.defaults k.frames h.1)
+    (and_parts b (frames_inside 1 k.loops k.frames) e).1)
 
 -- ---- each instruction
 
@@ -674,7 +669,7 @@ flow_meets tables code (instr.Pass i) p k h =
     (λ s. leads (p + 1) (record s { pending = record q { passed = slice_set q.passed i true } ∷ qs })))))
     (top k.waiting (λ q qs. with (slot_form tables.decls q.scope i) (λ t. pop_as t (right k)
     (λ s. leads (p + 1) (record s { pending = record q { passed = slice_set q.passed i true } ∷ qs })))))
-    (pending_in k.loops k.pending k.waiting (pending_long k.pending k.waiting h.2))
+    (pending_in k.loops k.pending k.waiting (meet_long MeetsPending k.pending k.waiting h.2))
     (pass_meets tables i p k h k.pending k.waiting h.2)
 flow_meets tables code instr.Enter p k h =
     where_meets (is_pending_inside k.loops k.pending) (is_pending_inside k.loops k.waiting)
@@ -682,7 +677,7 @@ flow_meets tables code instr.Enter p k h =
     (leads (p + 1) (pushed (outputs_form tables.decls q.scope) (record (left k) { pending = qs })))))
     (top k.waiting (λ q qs. where_so (are_passed (scope_items tables.decls q.scope) q.passed)
     (leads (p + 1) (pushed (outputs_form tables.decls q.scope) (record (right k) { pending = qs })))))
-    (pending_in k.loops k.pending k.waiting (pending_long k.pending k.waiting h.2))
+    (pending_in k.loops k.pending k.waiting (meet_long MeetsPending k.pending k.waiting h.2))
     (enter_meets tables p k h k.pending k.waiting h.2)
 flow_meets tables code instr.Return p k h = return_meets (result_form tables k.owner) k h
 flow_meets tables code (instr.Begin v) p k h = begun_meets tables (slice_get tables.targets v) p k h
@@ -701,7 +696,7 @@ flow_meets tables code instr.Merge p k h =
     (leads (p + 1) (record (left k) { defaults = record g { checked = false } ∷ gs })))))
     (top k.frames (λ f fs. top fs (λ g gs. where_so (f.checked && same_form f.holds g.holds)
     (leads (p + 1) (record (right k) { defaults = record g { checked = false } ∷ gs })))))
-    (frames_in 2 k.loops k.defaults k.frames (frames_long k.defaults k.frames h.1))
+    (frames_in 2 k.loops k.defaults k.frames (meet_long MeetsFrame k.defaults k.frames h.1))
     (merge_meets p k h k.defaults k.frames h.1)
 flow_meets tables code (instr.Check v) p k h =
     where_meets (nat_lt v (length tables.targets) && frames_inside 1 k.loops k.defaults)
@@ -717,7 +712,7 @@ flow_meets tables code (instr.Take t) p k h =
     (leads_two (p + 1) (pushed f.holds (record (left k) { defaults = fs })) t (record (left k) { defaults = fs }))))
     (top k.frames (λ f fs. where_so f.checked
     (leads_two (p + 1) (pushed f.holds (record (right k) { defaults = fs })) t (record (right k) { defaults = fs }))))
-    (frames_in 1 k.loops k.defaults k.frames (frames_long k.defaults k.frames h.1))
+    (frames_in 1 k.loops k.defaults k.frames (meet_long MeetsFrame k.defaults k.frames h.1))
     (take_meets p t k h k.defaults k.frames h.1)
 flow_meets tables code (instr.NoValue v) p k h =
     where_same (nat_lt v (length tables.targets)) (Some []) (Some []) tt

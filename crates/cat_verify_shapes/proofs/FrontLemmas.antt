@@ -2,13 +2,11 @@
 use Rattle.std.proofs.Common.{◌≡◌, ◌≤◌, ℕ, zero, suc, ◌+◌, Bool, true, false, true≢false, List, [], ◌∷◌, ◌++◌}
 use Rattle.std.proofs.Common.{length}
 use Rattle.std.proofs.Common.{◌<◌, ◌↔◌, IsTrue, slice_index_or, take, Some, slice_get, refl, sym, ap, ◌∙◌, subst, arith}
+use Rattle.std.proofs.Common.{add-one}
 use Rattle.std.proofs.lemmas.List.{take_all}
 use Rattle.cat_code.specs.Shapes.{AreFewer, AllMeet}
 use Rattle.cat_verify_shapes.specs.inside.Zipped.{zipped}
 use Rattle.cat_verify_shapes.proofs.ListLemmas.{none_some, some_is}
-
-one_more : (n : ℕ) → n + 1 ≡ suc n
-one_more n = omega arith
 
 -- ---- elements that belong to each other
 
@@ -16,7 +14,7 @@ pub meet_more : {A : Type 0} (Meets : A → A → Type 0) (xs ys : List A) (n : 
     → slice_get ys n ≡ Some y → AllMeet Meets (take n xs) (take n ys) → Meets x y
     → AllMeet Meets (take (n + 1) xs) (take (n + 1) ys)
 meet_more {A} Meets xs ys n x y at of h m =
-    subst (λ (k : ℕ). AllMeet Meets (take k xs) (take k ys)) (sym (one_more n)) (step xs ys n at of h)
+    subst (λ (k : ℕ). AllMeet Meets (take k xs) (take k ys)) (sym (add-one n)) (step xs ys n at of h)
   where
     step : (xs ys : List A) (n : ℕ) → slice_get xs n ≡ Some x → slice_get ys n ≡ Some y
         → AllMeet Meets (take n xs) (take n ys) → AllMeet Meets (take (suc n) xs) (take (suc n) ys)
@@ -51,7 +49,7 @@ meet_long Meets (a ∷ xs) (b ∷ ys) h = ap suc (meet_long Meets xs ys h.1)
 pub fewer_more : (xs ys : List Bool) (n : ℕ) (x y : Bool) → slice_get xs n ≡ Some x → slice_get ys n ≡ Some y
     → AreFewer (take n xs) (take n ys) → (x ≡ true → y ≡ true) → AreFewer (take (n + 1) xs) (take (n + 1) ys)
 fewer_more xs ys n x y at of h so =
-    subst (λ (k : ℕ). AreFewer (take k xs) (take k ys)) (sym (one_more n)) (step xs ys n at of h)
+    subst (λ (k : ℕ). AreFewer (take k xs) (take k ys)) (sym (add-one n)) (step xs ys n at of h)
   where
     step : (xs ys : List Bool) (n : ℕ) → slice_get xs n ≡ Some x → slice_get ys n ≡ Some y
         → AreFewer (take n xs) (take n ys) → AreFewer (take (suc n) xs) (take (suc n) ys)
@@ -77,7 +75,7 @@ pub zipped_more : {A : Type 0} (f : A → A → A) (xs ys : List A) (n : ℕ) (x
     → slice_get ys n ≡ Some y
     → zipped f (take (n + 1) xs) (take (n + 1) ys) ≡ zipped f (take n xs) (take n ys) ++ f x y ∷ []
 zipped_more {A} f xs ys n x y at of =
-    ap (λ (k : ℕ). zipped f (take k xs) (take k ys)) (one_more n) ∙ step xs ys n at of
+    ap (λ (k : ℕ). zipped f (take k xs) (take k ys)) (add-one n) ∙ step xs ys n at of
   where
     step : (xs ys : List A) (n : ℕ) → slice_get xs n ≡ Some x → slice_get ys n ≡ Some y
         → zipped f (take (suc n) xs) (take (suc n) ys) ≡ zipped f (take n xs) (take n ys) ++ f x y ∷ []

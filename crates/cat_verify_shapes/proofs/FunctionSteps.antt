@@ -2,7 +2,7 @@
 use Rattle.std.proofs.Common.{◌≡◌, ℕ, ◌+◌, nat_eq, ◌&&◌, Bool, true, false, List, [], ◌∷◌}
 use Rattle.std.proofs.Common.{◌++◌, length}
 use Rattle.std.proofs.Common.{map, reverse, Option, Some, None, slice_get, refl, sym, ap, ◌∙◌}
-use Rattle.std.proofs.lemmas.Bool.{eq-eqb}
+use Rattle.std.proofs.lemmas.Bool.{eq-eqb, and_left, and_right, and_from}
 use Rattle.std.specs.Prelude.{Ok, Err}
 use Rattle.cat_value.specs.declared.ty.Ty.{Ty}
 use Rattle.cat_code.specs.declared.instr.Instr.TheVariants as instr
@@ -25,16 +25,6 @@ use Rattle.cat_verify_shapes.proofs.ListLemmas.{long_map}
 use Rattle.cat_verify_shapes.proofs.StepLemmas.{with_is, with_not, where_is, where_not}
 use Rattle.cat_verify_shapes.proofs.PopLemmas.{params_so, params_not}
 use Rattle.cat_verify_shapes.proofs.CountLemmas.{same_not}
-
-and_first : (a b : Bool) → a ≡ false → (a && b) ≡ false
-and_first a b e = ap (λ (x : Bool). x && b) e
-
-and_second : (a b : Bool) → b ≡ false → (a && b) ≡ false
-and_second true b e = e
-and_second false b e = refl
-
-and_both : (a b : Bool) → a ≡ true → b ≡ true → (a && b) ≡ true
-and_both a b e f = ap (λ (x : Bool). x && b) e ∙ f
 
 module _ (tables : Tables) (forms : Forms) (p : ℕ) where
   abbrev entered_by : ℕ → FunctionPlace → ℕ → meant.Shape → Flow
@@ -80,7 +70,7 @@ module _ (tables : Tables) (forms : Forms) (p : ℕ) where
       call_is d s f n entry place is at
       ∙ where_not (nat_eq place.scope s.owner.scope && nat_eq n (length place.decl.params))
       (called_on f n place entry (shape_of d s))
-      (and_first (nat_eq place.scope s.owner.scope) (nat_eq n (length place.decl.params))
+      (and_left (nat_eq place.scope s.owner.scope) (nat_eq n (length place.decl.params))
       (same_not place.scope s.owner.scope other))
 
   pub call_counted : (s : Shape) (f n entry : ℕ) (place : FunctionPlace)
@@ -91,7 +81,7 @@ module _ (tables : Tables) (forms : Forms) (p : ℕ) where
       call_is d s f n entry place is at
       ∙ where_not (nat_eq place.scope s.owner.scope && nat_eq n (length place.decl.params))
       (called_on f n place entry (shape_of d s))
-      (and_second (nat_eq place.scope s.owner.scope) (nat_eq n (length place.decl.params))
+      (and_right (nat_eq place.scope s.owner.scope) (nat_eq n (length place.decl.params))
       (same_not n (length place.decl.params) (λ e. other (sym e))))
 
   call_home : (d : Senses) (s : Shape) (f n entry : ℕ) (place : FunctionPlace)
@@ -102,7 +92,7 @@ module _ (tables : Tables) (forms : Forms) (p : ℕ) where
       call_is d s f n entry place is at
       ∙ where_is (nat_eq place.scope s.owner.scope && nat_eq n (length place.decl.params))
       (called_on f n place entry (shape_of d s))
-      (and_both (nat_eq place.scope s.owner.scope) (nat_eq n (length place.decl.params))
+      (and_from (nat_eq place.scope s.owner.scope) (nat_eq n (length place.decl.params))
       (eq-eqb place.scope s.owner.scope home) (eq-eqb n (length place.decl.params) (sym count)))
 
   long_as : (d : Senses) (ns : List ℕ) (tys : List Ty) (n : ℕ) → map d.one ns ≡ map (form_of tables.decls) tys

@@ -1,5 +1,5 @@
 -- Tables of types that have grown.
-use Rattle.std.proofs.Common.{◌≡◌, ◌⊎◌, inl, inr, ℕ, zero, suc, ◌+◌, Bool, true, false, true≢false, List, []}
+use Rattle.std.proofs.Common.{◌≡◌, ◌⊎◌, inl, inr, ℕ, zero, suc, Bool, true, false, true≢false, List, []}
 use Rattle.std.proofs.Common.{◌∷◌, ◌++◌}
 use Rattle.std.proofs.Common.{length, replicate, Option, Some, None, slice_get, slice_set, refl, sym, ap, ◌∙◌, subst}
 use Rattle.std.proofs.Common.{arith}
@@ -20,7 +20,7 @@ use Rattle.cat_verify_shapes.specs.inside.Senses.{Stands, Grows, IsTable}
 use Rattle.cat_verify_shapes.specs.inside.Growing.{StandsAs, IsNumber, HasKind, Adds, is_row}
 use Rattle.cat_verify_shapes.proofs.ListLemmas.{none_some, some_is, get_as_long, get_replicate, set_there, set_is}
 use Rattle.cat_verify_shapes.proofs.TableLemmas.{get_more, get_last, kind_at, kinds_apart, kinds_long, most, one_at}
-use Rattle.cat_verify_shapes.proofs.TableLemmas.{senses_of, senses_exist}
+use Rattle.cat_verify_shapes.proofs.TableLemmas.{senses_of, senses_exist, enumeration_of}
 use Rattle.cat_verify_shapes.proofs.PassLemmas.{same_or_not, senses_before}
 
 -- ---- what entries stand for
@@ -197,14 +197,10 @@ module _ (ks : List Kind) where
   number_is form.Last k e = ap number_in (sym (some_is (Row code.Last) k e))
   number_is (form.More n m) k e = (more_kind n m k e).0
 
-enumeration_in : code.Form → ℕ
-enumeration_in (code.OneOf n) = n
-enumeration_in _ = 0
-
 -- entries of one number, whose parts are the same
 same_by : (ks : List Kind) → ((n m : ℕ) (k : Kind) → slice_get ks n ≡ Some k → slice_get ks m ≡ Some k → n ≡ m)
     → (f g : Form) (k : Kind) → number_of f ≡ number_of g → kind_of ks f ≡ Some k → kind_of ks g ≡ Some k → f ≡ g
-unfolding enumeration_in
+unfolding enumeration_of
 same_by ks apart form.Truth form.Truth k same e h = refl
 same_by ks apart form.Whole form.Whole k same e h = refl
 same_by ks apart form.Fraction form.Fraction k same e h = refl
@@ -217,7 +213,7 @@ same_by ks apart (form.Many n) (form.Many m) k same e h =
 same_by ks apart (form.Fields n) (form.Fields m) k same e h =
     ap form.Fields (apart n m (Row (rest_of k)) (fields_kind ks n k e).1 (fields_kind ks m k h).1)
 same_by ks apart (form.OneOf n) (form.OneOf m) k same e h =
-    ap (λ (j : Kind). form.OneOf (enumeration_in (part_of j)))
+    ap (λ (j : Kind). form.OneOf (enumeration_of (part_of j)))
     (some_is (One (code.OneOf n)) (One (code.OneOf m)) (e ∙ sym h))
 same_by ks apart (form.More n l) (form.More m j) k same e h =
     ap (λ (i : ℕ). form.More i l) (apart n m (One (part_of k)) (more_kind ks n l k e).1 (more_kind ks m j k h).1)

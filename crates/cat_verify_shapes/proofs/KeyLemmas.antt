@@ -1,5 +1,5 @@
 -- Entries that are the same, and a table to which one was added.
-use Rattle.std.proofs.Common.{◌≡◌, ◌<◌, ◌+◌, ◌||◌, nat_lt, length, cond, position, None, inl, inr, ℕ, zero, suc, Bool}
+use Rattle.std.proofs.Common.{◌≡◌, ◌||◌, ◌<◌, ◌+◌, nat_lt, length, cond, position, None, inl, inr, ℕ, zero, suc, Bool}
 use Rattle.std.proofs.Common.{true, false, true≢false, List, [], ◌∷◌, ◌++◌}
 use Rattle.std.proofs.Common.{Some, slice_get, refl, sym, ap, ◌∙◌, subst, arith, if◌then◌else◌}
 use Rattle.std.specs.List.{list_any, position_or_len}
@@ -67,10 +67,6 @@ kind_other forms (form.OneOf n) many fields more ks are = (One (code.OneOf n), r
 kind_other forms (form.Many n) many fields more ks are = absurd (many n refl)
 kind_other forms (form.Fields n) many fields more ks are = absurd (fields n refl)
 kind_other forms (form.More n m) many fields more ks are = absurd (more n m refl)
-
-pub not_so : (b : Bool) → not b ≡ true → b ≡ false
-not_so true h = absurd (true≢false (sym h))
-not_so false h = refl
 
 either : (a b : Bool) → (a || b) ≡ false → (a ≡ true → ⊥) × (b ≡ false)
 either true b h = absurd (true≢false h)

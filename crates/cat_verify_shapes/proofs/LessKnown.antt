@@ -1,19 +1,20 @@
 -- Where less is known of a shape and an instruction goes on, it goes on where more is known too: to the same places, of
 -- whose shapes more is known.
-use Rattle.std.proofs.Common.{◌≡◌, ℕ, zero, suc, ◌+◌, nat_le, nat_lt, ◌&&◌, Bool, true, false, not}
+use Rattle.std.proofs.Common.{◌≡◌, ℕ, zero, suc, ◌+◌, nat_le, nat_lt, Bool, true, false, not}
 use Rattle.std.proofs.Common.{true≢false}
 use Rattle.std.proofs.Common.{List, [], ◌∷◌, length, Option, Some, None, slice_get, slice_set, refl, sym, ap, ◌∙◌}
 use Rattle.std.proofs.Common.{arith}
+use Rattle.std.proofs.lemmas.Bool.{and_from, and_parts}
 use Rattle.cat_value.specs.declared.declaration.ItemDecl.{ItemDecl}
 use Rattle.cat_value.specs.Inputs.{must_be_given}
 use Rattle.cat_scope.specs.Names.{has_none}
-use Rattle.cat_code.specs.declared.instr.Instr.TheVariants as instr
 use Rattle.cat_code.specs.Forms.{Form, Forms, Many, Fields}
-use Rattle.cat_code.specs.Shapes.{Owner, FrameShape, LoopShape, PendingShape, Shape, AreFewer, MeetsFrame, MeetsPending}
+use Rattle.cat_code.specs.Shapes.{FrameShape, LoopShape, PendingShape, Shape, AreFewer, MeetsFrame, MeetsPending}
 use Rattle.cat_code.specs.Shapes.{AllMeet, Meets}
 use Rattle.cat_code.specs.Wanted.{is_so, frames_inside, is_pending_inside, are_passed}
 use Rattle.cat_code.specs.Leads.{Flow, with, where_so, top, elements_of, fields_of}
 use Rattle.cat_code.specs.Told.{collected_by}
+use Rattle.cat_verify_shapes.proofs.FrontLemmas.{meet_long}
 
 -- ---- shapes that differ in what is known
 
@@ -29,17 +30,6 @@ abbrev pub FlowMeets : Flow → Flow → Type 0
 FlowMeets f None = Unit {0}
 FlowMeets None (Some ys) = ⊥
 FlowMeets (Some xs) (Some ys) = AllNext xs ys
-
-abbrev shape : Owner → List Form → List Form → List Bool → List FrameShape → List LoopShape → List PendingShape → Shape
-shape owner operands locals filled defaults loops pending = record {
-  owner = owner;
-  operands = operands;
-  locals = locals;
-  filled = filled;
-  defaults = defaults;
-  loops = loops;
-  pending = pending;
-}
 
 -- ---- flags
 
@@ -76,22 +66,6 @@ pub fewer_checked : (a b : Bool) → AreFewer (b ∷ []) (a ∷ []) → b ≡ tr
 fewer_checked a true h e = h.0
 fewer_checked a false h e = absurd (true≢false (sym e))
 
-not_so : (b : Bool) → (not b && true) ≡ true → b ≡ false
-not_so true e = absurd (true≢false (sym e))
-not_so false e = refl
-
-pub both_first : (a b : Bool) → (a && b) ≡ true → a ≡ true
-both_first true b e = refl
-both_first false b e = absurd (true≢false (sym e))
-
-pub both_second : (a b : Bool) → (a && b) ≡ true → b ≡ true
-both_second true b e = e
-both_second false b e = absurd (true≢false (sym e))
-
-pub both_join : (a b : Bool) → a ≡ true → b ≡ true → (a && b) ≡ true
-both_join true b e f = f
-both_join false b e f = absurd (true≢false (sym e))
-
 pub fewer_passed : (items : List ItemDecl) (fewer more : List Bool) → AreFewer fewer more
     → are_passed items fewer ≡ true
     → are_passed items more ≡ true
@@ -102,25 +76,13 @@ fewer_passed (x ∷ items) (false ∷ fewer) [] h e = absurd h
 fewer_passed (x ∷ items) (true ∷ fewer) (true ∷ more) h e = fewer_passed items fewer more h.1 e
 fewer_passed (x ∷ items) (true ∷ fewer) (false ∷ more) h e = absurd (true≢false (sym h.0))
 fewer_passed (x ∷ items) (false ∷ fewer) (true ∷ more) h e =
-    fewer_passed items fewer more h (both_second (not (must_be_given x.kind)) (are_passed items fewer) e)
+    fewer_passed items fewer more h (and_parts (not (must_be_given x.kind)) (are_passed items fewer) e).1
 fewer_passed (x ∷ items) (false ∷ fewer) (false ∷ more) h e =
-    both_join (not (must_be_given x.kind)) (are_passed items more)
-    (both_first (not (must_be_given x.kind)) (are_passed items fewer) e)
-    (fewer_passed items fewer more h (both_second (not (must_be_given x.kind)) (are_passed items fewer) e))
+    and_from (not (must_be_given x.kind)) (are_passed items more)
+    (and_parts (not (must_be_given x.kind)) (are_passed items fewer) e).0
+    (fewer_passed items fewer more h (and_parts (not (must_be_given x.kind)) (are_passed items fewer) e).1)
 
 -- ---- frames
-
-pub frames_long : (fs gs : List FrameShape) → AllMeet MeetsFrame fs gs → length fs ≡ length gs
-frames_long [] [] h = refl
-frames_long [] (g ∷ gs) h = absurd h
-frames_long (f ∷ fs) [] h = absurd h
-frames_long (f ∷ fs) (g ∷ gs) h = ap suc (frames_long fs gs h.1)
-
-pub pending_long : (ps qs : List PendingShape) → AllMeet MeetsPending ps qs → length ps ≡ length qs
-pending_long [] [] h = refl
-pending_long [] (q ∷ qs) h = absurd h
-pending_long (p ∷ ps) [] h = absurd h
-pending_long (p ∷ ps) (q ∷ qs) h = ap suc (pending_long ps qs h.1)
 
 pub frames_in : (n : ℕ) (loops : List LoopShape) (fs gs : List FrameShape) → length fs ≡ length gs
     → frames_inside n loops gs ≡ true → frames_inside n loops fs ≡ true
@@ -140,7 +102,7 @@ no_frames (f ∷ fs) [] h = absurd h
 no_frames (f ∷ fs) (g ∷ gs) h = refl
 
 pub no_pending : (ps qs : List PendingShape) → AllMeet MeetsPending ps qs → has_none ps ≡ has_none qs
-no_pending ps qs h = none_same ps qs (pending_long ps qs h)
+no_pending ps qs h = none_same ps qs (meet_long MeetsPending ps qs h)
 
 pub pending_in : (loops : List LoopShape) (ps qs : List PendingShape) → length ps ≡ length qs
     → is_pending_inside loops qs ≡ true → is_pending_inside loops ps ≡ true
@@ -182,22 +144,3 @@ pub collected_meet : (t : Option Form) (go other : Form → Flow) → ((u : Form
     → FlowMeets (collected_by t go) (collected_by t other)
 collected_meet None go other h = tt
 collected_meet (Some t) go other h = elements_meet t go other h
-
-pub frames_meet : (fs gs : List FrameShape) (go other : FrameShape → List FrameShape → Flow) → AllMeet MeetsFrame fs gs
-    → ((f g : FrameShape) (more rest : List FrameShape) → MeetsFrame f g → AllMeet MeetsFrame more rest
-    → FlowMeets (go f more) (other g rest))
-    → FlowMeets (top fs go) (top gs other)
-frames_meet [] [] go other m h = tt
-frames_meet [] (g ∷ gs) go other m h = absurd m
-frames_meet (f ∷ fs) [] go other m h = tt
-frames_meet (f ∷ fs) (g ∷ gs) go other m h = h f g fs gs m.0 m.1
-
-pub pendings_meet : (ps qs : List PendingShape) (go other : PendingShape → List PendingShape → Flow)
-    → AllMeet MeetsPending ps qs
-    → ((p q : PendingShape) (more rest : List PendingShape) → MeetsPending p q → AllMeet MeetsPending more rest
-    → FlowMeets (go p more) (other q rest))
-    → FlowMeets (top ps go) (top qs other)
-pendings_meet [] [] go other m h = tt
-pendings_meet [] (q ∷ qs) go other m h = absurd m
-pendings_meet (p ∷ ps) [] go other m h = tt
-pendings_meet (p ∷ ps) (q ∷ qs) go other m h = h p q ps qs m.0 m.1

@@ -14,13 +14,17 @@ mod CommonLemmas
 mod CountLemmas
 mod DeclLemmas
 mod DefaultSteps
+pub mod Exported
 mod FineLemmas
 mod FlowCases
 mod FlowLemmas
+mod FlowPlaces
 mod FrameLemmas
 mod FrontLemmas
 mod FunctionSteps
 mod GrowLemmas
+mod InsideFlow
+mod InsideLemmas
 mod KeyLemmas
 mod LessKnown
 mod ListLemmas
@@ -28,7 +32,6 @@ mod LookSteps
 mod LookingLemmas
 mod LookupLemmas
 mod LoopCalls
-mod LoopLemmas
 mod LoopSteps
 mod LoopTests
 mod LowLemmas
@@ -39,6 +42,7 @@ mod OperandLemmas
 mod OperatorSteps
 mod OperatorTable
 mod OrderLemmas
+mod OwnedShapes
 mod PassLemmas
 mod PlaceLemmas
 mod PlaceSteps
@@ -53,6 +57,7 @@ mod StateSteps
 mod StepLemmas
 mod TableLemmas
 mod TurnLemmas
+mod TurnsMet
 mod TypeForms
 mod TypeRows
 mod ValueSteps

@@ -1,7 +1,7 @@
 -- What is known behind a place that is looked at, and why no shapes exist where it can't be.
 use Rattle.std.proofs.Common.{◌≡◌, ◌⊎◌, ◌<◌, ◌≤◌, inl, inr, ℕ, zero, suc, ◌+◌, List, [], ◌∷◌, ◌++◌}
 use Rattle.std.proofs.Common.{length, drop, Some, None}
-use Rattle.std.proofs.Common.{slice_get, slice_set, refl, sym, ap, ◌∙◌, subst, arith}
+use Rattle.std.proofs.Common.{slice_get, slice_set, refl, sym, ap, ◌∙◌, subst, arith, add-one}
 use Rattle.std.proofs.lemmas.Option.{slice_get_within}
 use Rattle.cat_scope.specs.Names.{IsOneOf}
 use Rattle.cat_code.specs.declared.instr.Instr.{Instr}
@@ -49,14 +49,10 @@ pub order_behind : (tables : Tables) (code : List Instr) (ps left : List ℕ) �
 order_behind tables code [] left order = order
 order_behind tables code (p ∷ ps) left order = order_behind tables code ps left order.3
 
--- what a loop over places has in front of it
-one_more : (n : ℕ) → n + 1 ≡ suc n
-one_more n = omega arith
-
 pub place_next : (ps left : List ℕ) (k p : ℕ) → slice_get ps k ≡ Some p
     → drop k ps ++ left ≡ p ∷ (drop (k + 1) ps ++ left)
 place_next ps left k p is =
-    at ps k is ∙ ap (λ (n : ℕ). p ∷ (drop n ps ++ left)) (sym (one_more k))
+    at ps k is ∙ ap (λ (n : ℕ). p ∷ (drop n ps ++ left)) (sym (add-one k))
   where
     at : (ps : List ℕ) (k : ℕ) → slice_get ps k ≡ Some p → drop k ps ++ left ≡ p ∷ (drop (suc k) ps ++ left)
     at [] k is = absurd (none_some p is)
@@ -73,7 +69,7 @@ place_order tables code (p ∷ ps) left (suc k) order = place_order tables code 
 pub owner_next : (owners : List OwnerPlaces) (k : ℕ) (one : OwnerPlaces) → slice_get owners k ≡ Some one
     → all_places (drop k owners) ≡ one.places ++ all_places (drop (k + 1) owners)
 owner_next owners k one is =
-    at owners k is ∙ ap (λ (n : ℕ). one.places ++ all_places (drop n owners)) (sym (one_more k))
+    at owners k is ∙ ap (λ (n : ℕ). one.places ++ all_places (drop n owners)) (sym (add-one k))
   where
     at : (owners : List OwnerPlaces) (k : ℕ) → slice_get owners k ≡ Some one
         → all_places (drop k owners) ≡ one.places ++ all_places (drop (suc k) owners)

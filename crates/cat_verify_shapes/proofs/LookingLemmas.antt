@@ -16,7 +16,6 @@ use Rattle.cat_verify_shapes.specs.declared.shape.Shape.{Shape}
 use Rattle.cat_verify_shapes.specs.declared.leads.Leads.{Leads}
 use Rattle.cat_verify_shapes.specs.declared.leads.Leads.TheVariants as leads
 use Rattle.cat_verify_shapes.specs.declared.found.Spot.{Spot}
-use Rattle.cat_verify_shapes.specs.declared.found.Spot.TheVariants as spot
 use Rattle.cat_verify_shapes.specs.inside.Senses.{Senses}
 use Rattle.cat_verify_shapes.specs.inside.Told.{shape_of, leads_of}
 use Rattle.cat_verify_shapes.specs.inside.Lower.{Lower}

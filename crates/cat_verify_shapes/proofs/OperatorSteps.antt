@@ -3,7 +3,7 @@ use Rattle.std.proofs.Common.{◌≡◌, ◌⊎◌, inl, inr, ℕ, ◌+◌, nat_
 use Rattle.std.proofs.Common.{true≢false}
 use Rattle.std.proofs.Common.{List, [], ◌∷◌, length, map, Option, Some, None, slice_get, refl, sym, ap, ◌∙◌, subst}
 use Rattle.std.specs.Prelude.{Result, Ok, Err, if◌then◌else◌}
-use Rattle.std.proofs.lemmas.Bool.{eq-eqb}
+use Rattle.std.proofs.lemmas.Bool.{eq-eqb, and_from, and_right, and_left}
 use Rattle.cat_value.specs.declared.ty.Ty.{Ty}
 use Rattle.cat_value.specs.declared.ty.Ty.TheVariants as ty
 use Rattle.cat_value.specs.declared.decls.Decls.{Decls}
@@ -41,16 +41,6 @@ use Rattle.cat_verify_shapes.proofs.ListLemmas.{none_some, some_is}
 use Rattle.cat_verify_shapes.proofs.StepLemmas.{with_is, with_not, where_is, where_not, pop_none, pop_some, as_so}
 use Rattle.cat_verify_shapes.proofs.StepLemmas.{as_not}
 use Rattle.cat_verify_shapes.proofs.StepLemmas.{AreApart, comes_by}
-
-and_so : (a b : Bool) → a ≡ true → b ≡ true → (a && b) ≡ true
-and_so a b e f = ap (λ (x : Bool). x && b) e ∙ f
-
-and_off : (a b : Bool) → b ≡ false → (a && b) ≡ false
-and_off true b e = e
-and_off false b e = refl
-
-first_off : (a b : Bool) → a ≡ false → (a && b) ≡ false
-first_off a b e = ap (λ (x : Bool). x && b) e
 
 flat_means : (ds : Decls) (d : Senses) (n : ℕ) (f : Form) (t : Ty) → type_of f ≡ Some t → Means d n f
     → d.one n ≡ form_of ds t
@@ -225,7 +215,7 @@ module _ (tables : Tables) (forms : Forms) (p : ℕ) where
       ∙ with_is (signed (form_of tables.decls) (of.1 ∷ []) (d.one takes.2.0) (d.one takes.1.0)) of.1.result
       (λ t. leads (p + 1) (pushed (form_of tables.decls t) (shape_of d r)))
       (one_signature of.1 (d.one takes.2.0) (d.one takes.1.0)
-      (and_so (same_form (d.one takes.2.0) (form_of tables.decls of.1.left))
+      (and_from (same_form (d.one takes.2.0) (form_of tables.decls of.1.left))
       (same_form (d.one takes.1.0) (form_of tables.decls of.1.right)) left right))
       ∙ given_is d h r c of.1.result l of.6 gives
     where
@@ -250,7 +240,8 @@ module _ (tables : Tables) (forms : Forms) (p : ℕ) where
       with_not (signed (form_of tables.decls) (g ∷ []) (d.one n) u)
       (λ r. leads (p + 1) (pushed (form_of tables.decls r) (record x { operands = map d.one ops })))
       (no_signature g (d.one n) u
-      (and_off (same_form (d.one n) (form_of tables.decls g.left)) (same_form u (form_of tables.decls g.right)) other))
+      (and_right (same_form (d.one n) (form_of tables.decls g.left)) (same_form u (form_of tables.decls g.right))
+      other))
 
   right_not : (d : Senses) → AreSenses tables.decls forms d → (s q : Shape) (b : Form) (g : Signature)
       → type_of b ≡ Some g.right → (takes : TakesForm forms s q b false)
@@ -278,7 +269,7 @@ module _ (tables : Tables) (forms : Forms) (p : ℕ) where
           ∙ with_not (signed (form_of tables.decls) (g ∷ []) (d.one m) u)
           (λ t. leads (p + 1) (pushed (form_of tables.decls t) (shape_of d (record q { operands = ms }))))
           (no_signature g (d.one m) u
-          (first_off (same_form (d.one m) (form_of tables.decls g.left)) (same_form u (form_of tables.decls g.right))
+          (and_left (same_form (d.one m) (form_of tables.decls g.left)) (same_form u (form_of tables.decls g.right))
           (same_as d h.apart m takes.0 (form_of tables.decls g.left)
           (flat_means tables.decls d takes.0 a g.left is (h.means takes.0 a takes.1)) ∙ other)))
 
@@ -365,14 +356,14 @@ module _ (tables : Tables) (forms : Forms) (p : ℕ) where
   operate_unrounded s n r q off = λ d h.
       where_not (nat_lt r (length roundings) && nat_lt q (length tables.positions))
       (with (operation n) (λ o. operated (form_of tables.decls) o p (shape_of d s)))
-      (first_off (nat_lt r (length roundings)) (nat_lt q (length tables.positions)) off)
+      (and_left (nat_lt r (length roundings)) (nat_lt q (length tables.positions)) off)
 
   pub operate_nowhere : (s : Shape) (n r q : ℕ) → nat_lt q (length tables.positions) ≡ false
       → Tells tables forms (Err stuck.Bad) (flow tables [] (instr.Op n r q) p) s
   operate_nowhere s n r q off = λ d h.
       where_not (nat_lt r (length roundings) && nat_lt q (length tables.positions))
       (with (operation n) (λ o. operated (form_of tables.decls) o p (shape_of d s)))
-      (and_off (nat_lt r (length roundings)) (nat_lt q (length tables.positions)) off)
+      (and_right (nat_lt r (length roundings)) (nat_lt q (length tables.positions)) off)
 
   operate_is : (d : Senses) (s : Shape) (n r q : ℕ) → nat_lt r (length roundings) ≡ true
       → nat_lt q (length tables.positions) ≡ true
@@ -381,7 +372,7 @@ module _ (tables : Tables) (forms : Forms) (p : ℕ) where
   operate_is d s n r q e f =
       where_is (nat_lt r (length roundings) && nat_lt q (length tables.positions))
       (with (operation n) (λ o. operated (form_of tables.decls) o p (shape_of d s)))
-      (and_so (nat_lt r (length roundings)) (nat_lt q (length tables.positions)) e f)
+      (and_from (nat_lt r (length roundings)) (nat_lt q (length tables.positions)) e f)
 
   pub operate_unnamed : (s : Shape) (n r q : ℕ) → nat_lt r (length roundings) ≡ true
       → nat_lt q (length tables.positions) ≡ true → IsNamed (operation n) None

@@ -15,7 +15,6 @@ use Rattle.cat_verify_shapes.specs.Belonging.{Belongs, MayRun}
 use Rattle.cat_verify_shapes.specs.Unshaped.{AreOwnShapes}
 use Rattle.cat_verify_shapes.specs.declared.forms.Forms.{Forms}
 use Rattle.cat_verify_shapes.specs.declared.shape.Shape.{Shape}
-use Rattle.cat_verify_shapes.specs.declared.leads.Leads.TheVariants as leads
 use Rattle.cat_verify_shapes.specs.declared.found.Spot.{Spot}
 use Rattle.cat_verify_shapes.specs.declared.found.Spot.TheVariants as spot
 use Rattle.cat_verify_shapes.specs.inside.FormKinds.{Kind, AreKinds}

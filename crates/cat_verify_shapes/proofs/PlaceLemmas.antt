@@ -1,5 +1,5 @@
 -- Where an instruction leads: to a place of its own scope or function, or to where a called function begins.
-use Rattle.std.proofs.Common.{◌≡◌, ◌⊎◌, inl, inr, ℕ, zero, suc, ◌+◌, ◌<◌, nat_lt, ◌||◌, Bool, true, false, true≢false}
+use Rattle.std.proofs.Common.{◌≡◌, ◌||◌, ◌⊎◌, inl, inr, ℕ, zero, suc, ◌+◌, ◌<◌, nat_lt, Bool, true, false, true≢false}
 use Rattle.std.proofs.Common.{List, [], ◌∷◌}
 use Rattle.std.proofs.Common.{◌++◌, if◌then◌else◌, Option, Some, None, slice_get, IsTrue, refl, sym, ap, ◌∙◌, subst}
 use Rattle.std.proofs.Common.{arith}
@@ -50,7 +50,7 @@ module _ (tables : Tables) (i : Instr) (p : ℕ) (s : Shape) where
 
   pub flow_led : (code : List Instr) → FlowHas IsLed (flow tables code i p s)
   flow_led code =
-      flow_has tables IsLed code i p s (λ q on. inl (refl, on))
+      flow_has IsLed tables code i p s (λ q on. inl (refl, on))
       (λ f n is entry place at of home. inr (
         enters f n is entry place (eqb-true place.scope s.owner.scope home),
         (record { place = place; place_is = at; scope_is = refl }, of),
@@ -72,6 +72,14 @@ forward_at code p (j ∷ is) (suc k) i forward e =
   where
     plain : (p k : ℕ) → p + 1 + k ≡ p + suc k
     plain p k = omega arith
+
+pub forward_there : (code : List Instr) (p : ℕ) (i : Instr) → AreForward code 0 code → slice_get code p ≡ Some i
+    → IsTrue (is_forward code p i (jump_of i))
+forward_there code p i forward is =
+    subst (λ (n : ℕ). IsTrue (is_forward code n i (jump_of i))) (plain p) (forward_at code 0 code p i forward is)
+  where
+    plain : (p : ℕ) → 0 + p ≡ p
+    plain p = omega arith
 
 -- a place behind, or a `next` to which a jump goes back
 abbrev pub IsAhead : List Instr → Instr → ℕ → ℕ → Type 0
@@ -106,10 +114,7 @@ pub led_ahead : (code : List Instr) (i : Instr) (p q : ℕ) → AreForward code 
 led_ahead code i p q forward is among = by_step (goes_on i) among
   where
     here : IsTrue (is_forward code p i (jump_of i))
-    here = subst (λ (n : ℕ). IsTrue (is_forward code n i (jump_of i))) (plain p) (forward_at code 0 code p i forward is)
-      where
-        plain : (p : ℕ) → 0 + p ≡ p
-        plain p = omega arith
+    here = forward_there code p i forward is
 
     next : (p q : ℕ) → q ≡ p + 1 → p < q
     next p q e = omega (arith, e)

@@ -1,10 +1,10 @@
 -- What flows give that pop several operands at once.
-use Rattle.std.proofs.Common.{◌≡◌, ◌⊎◌, inl, inr, ℕ, zero, suc, ◌+◌, ◌&&◌, Bool, true, false}
+use Rattle.std.proofs.Common.{◌≡◌, ◌⊎◌, inl, inr, ℕ, zero, suc, ◌&&◌, Bool, true, false}
 use Rattle.std.proofs.Common.{true≢false}
 use Rattle.std.proofs.Common.{List, [], ◌∷◌, ◌++◌, length, map, reverse, replicate, None, refl}
 use Rattle.std.proofs.Common.{sym, ap}
 use Rattle.std.proofs.Common.{◌∙◌, arith}
-use Rattle.std.proofs.lemmas.Bool.{eqb-true, eq-eqb}
+use Rattle.std.proofs.lemmas.Bool.{eqb-true, eq-eqb, and_parts}
 use Rattle.std.proofs.lemmas.List.{append-nil, reverse-append, reverse-reverse, length-reverse}
 use Rattle.cat_value.specs.declared.ty.Ty.{Ty}
 use Rattle.cat_code.specs.Forms.{Form, same_form}
@@ -15,11 +15,7 @@ use Rattle.cat_verify_shapes.specs.inside.Senses.{Senses}
 use Rattle.cat_verify_shapes.proofs.ListLemmas.{head_is, replicate_long}
 use Rattle.cat_verify_shapes.proofs.StepLemmas.{AreApart, where_is, where_not}
 
-both_so : (a b : Bool) → (a && b) ≡ true → (a ≡ true) × (b ≡ true)
-both_so true b e = (refl, e)
-both_so false b e = absurd (true≢false (sym e))
-
-rev_cons : (x : ℕ) (xs : List ℕ) → reverse (x ∷ xs) ≡ reverse xs ++ x ∷ []
+pub rev_cons : (x : ℕ) (xs : List ℕ) → reverse (x ∷ xs) ≡ reverse xs ++ x ∷ []
 rev_cons x xs = reverse-append (x ∷ []) xs
 
 map_front : (f : ℕ → Form) (xs : List ℕ) (x : ℕ) (ts : List Form)
@@ -73,7 +69,7 @@ same_all : (n : ℕ) → (d : Senses) → AreApart d → (ms : List ℕ) → all
     → ms ≡ replicate (length ms) n
 same_all n d apart [] e = refl
 same_all n d apart (m ∷ ms) e =
-    let parts = both_so (same_form (d.one m) (d.one n)) (all_same (d.one n) (map d.one ms)) e in
+    let parts = and_parts (same_form (d.one m) (d.one n)) (all_same (d.one n) (map d.one ms)) e in
     ap (λ (k : ℕ). k ∷ ms) (eqb-true m n (sym (apart m n) ∙ parts.0))
     ∙ ap (λ (l : List ℕ). n ∷ l) (same_all n d apart ms parts.1)
 
@@ -154,7 +150,7 @@ params_are d apart form [] (t ∷ tys) ms stand e = absurd (omega (arith, ap len
 params_are d apart form (n ∷ ns) [] ms stand e = absurd (omega (arith, ap length stand))
 params_are d apart form (n ∷ ns) (t ∷ tys) [] stand e = absurd (true≢false (sym e))
 params_are d apart form (n ∷ ns) (t ∷ tys) (m ∷ ms) stand e =
-    let parts = both_so (same_form (d.one m) (form t)) (are_params form tys (map d.one ms)) e in
+    let parts = and_parts (same_form (d.one m) (form t)) (are_params form tys (map d.one ms)) e in
     let one : d.one n ≡ form t = first (d.one n) (form t) (map d.one ns) (map form tys) stand in
     ap (λ (k : ℕ). k ∷ ms)
     (eqb-true m n (sym (apart m n) ∙ ap (same_form (d.one m)) one ∙ parts.0))

@@ -1,5 +1,5 @@
 -- Whether shapes are alike, and which of them has no fewer, by their lists from below.
-use Rattle.std.proofs.Common.{◌≡◌, ◌↔◌, Bool, true, false, true≢false, IsTrue, List, length, reverse, sym, ap, ◌∙◌}
+use Rattle.std.proofs.Common.{◌≡◌, ◌↔◌, Bool, false, true≢false, IsTrue, List, length, reverse, sym, ap, ◌∙◌}
 use Rattle.std.proofs.Common.{subst, ℕ, [], ◌∷◌}
 use Rattle.std.proofs.lemmas.List.{length-reverse, reverse-reverse}
 use Rattle.cat_code.specs.Shapes.{AreFewer}

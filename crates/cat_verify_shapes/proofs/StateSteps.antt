@@ -1,15 +1,14 @@
 -- What is known from the beginning, by scopes that are entered and places that are looked at, to the end.
-use Rattle.std.proofs.Common.{◌≡◌, ◌⊎◌, ◌<◌, inl, inr, ℕ, zero, suc, ◌+◌, List, [], ◌∷◌}
+use Rattle.std.proofs.Common.{◌≡◌, ◌⊎◌, ◌<◌, inl, inr, ℕ, suc, ◌+◌, List, [], ◌∷◌}
 use Rattle.std.proofs.Common.{length, replicate}
 use Rattle.std.proofs.Common.{Some, None, slice_get, refl, sym, ap, ◌∙◌, subst, arith}
 use Rattle.std.specs.Prelude.{Result, Ok, Err, IfOk, IfErr}
 use Rattle.std.proofs.lemmas.Option.{slice_get_within}
 use Rattle.cat_value.specs.declared.declaration.Scope.{Scope}
 use Rattle.cat_code.specs.declared.instr.Instr.{Instr}
-use Rattle.cat_code.specs.declared.instr.Instr.TheVariants as instr
 use Rattle.cat_code.specs.declared.code.Tables.{Tables}
 use Rattle.cat_code.specs.Shapes as meant
-use Rattle.cat_code.specs.Shaped.{Shapes, IsMet, AreFine, AreEntries, IsShapedBy, IsShaped, scope_entry}
+use Rattle.cat_code.specs.Shaped.{Shapes, IsMet, AreFine, IsShapedBy, IsShaped, scope_entry}
 use Rattle.cat_verify_shapes.specs.Belonging.{Belongs, MayRun, begins, scope}
 use Rattle.cat_verify_shapes.specs.Owned.{AreOwners}
 use Rattle.cat_verify_shapes.specs.Unshaped.{HasOwnShapes, IsUnshaped, HasCause}
@@ -17,7 +16,6 @@ use Rattle.cat_verify_shapes.specs.declared.owner.OwnerPlaces.{OwnerPlaces}
 use Rattle.cat_verify_shapes.specs.declared.refusal.ShapeRefusal.{ShapeRefusal}
 use Rattle.cat_verify_shapes.specs.declared.forms.Forms.{Forms}
 use Rattle.cat_verify_shapes.specs.declared.shape.Shape.{Shape}
-use Rattle.cat_verify_shapes.specs.declared.leads.Leads.TheVariants as leads
 use Rattle.cat_verify_shapes.specs.declared.found.Spot.{Spot}
 use Rattle.cat_verify_shapes.specs.declared.found.Spot.TheVariants as spot
 use Rattle.cat_verify_shapes.specs.inside.Senses.{Senses, AreSenses, IsTable}
@@ -29,7 +27,7 @@ use Rattle.cat_verify_shapes.specs.inside.States.{LookedAt, kept_at, IsKnown, Ar
 use Rattle.cat_verify_shapes.specs.inside.States.{all_places, LooksAtAll}
 use Rattle.cat_verify_shapes.proofs.ListLemmas.{none_some, some_is, get_as_long}
 use Rattle.cat_verify_shapes.proofs.ListLemmas.{get_replicate, replicate_long}
-use Rattle.cat_verify_shapes.proofs.FineLemmas.{met_lower}
+use Rattle.cat_verify_shapes.proofs.FineLemmas.{met_lower, entry_there}
 use Rattle.cat_verify_shapes.proofs.TurnLemmas.{IsComing}
 use Rattle.cat_verify_shapes.proofs.TableLemmas.{senses_of, senses_exist}
 use Rattle.cat_verify_shapes.proofs.OrderLemmas.{is_place}
@@ -46,25 +44,6 @@ fits_long tables code [] fit [] p fine = refl
 fits_long tables code [] fit (s ∷ ss) p fine = absurd fine
 fits_long tables code (i ∷ is) fit [] p fine = absurd fine
 fits_long tables code (i ∷ is) fit (s ∷ ss) p fine = ap suc (fits_long tables code is fit ss (p + 1) fine.1)
-
-entry_met : (fit : Shapes) (n : ℕ) (scopes : List Scope) (entries : List ℕ) → AreEntries fit n scopes entries
-    → (k : ℕ) (one : Scope) (e : ℕ) → slice_get scopes k ≡ Some one → slice_get entries k ≡ Some e
-    → IsMet fit e (scope_entry (n + k) one.items)
-entry_met fit n [] entries are k one e is at = absurd (none_some one is)
-entry_met fit n (s ∷ scopes) [] are k one e is at = absurd (none_some e at)
-entry_met fit n (s ∷ scopes) (f ∷ entries) are zero one e is at =
-    subst (λ (m : ℕ). IsMet fit e (scope_entry m one.items)) (plain n)
-    (subst (λ (q : ℕ). IsMet fit q (scope_entry n one.items)) (some_is f e at)
-    (subst (λ (x : Scope). IsMet fit f (scope_entry n x.items)) (some_is s one is) are.0))
-  where
-    plain : (n : ℕ) → n ≡ n + zero
-    plain n = omega arith
-entry_met fit n (s ∷ scopes) (f ∷ entries) are (suc k) one e is at =
-    subst (λ (m : ℕ). IsMet fit e (scope_entry m one.items)) (plain n k)
-    (entry_met fit (n + 1) scopes entries are.1 k one e is at)
-  where
-    plain : (n k : ℕ) → n + 1 + k ≡ n + suc k
-    plain n k = omega arith
 
 module _ (tables : Tables) (code : List Instr) where
   -- a place that fitting shapes have is a spot
@@ -123,12 +102,9 @@ module _ (tables : Tables) (code : List Instr) where
       → slice_get tables.scopes n ≡ Some e → s ≡ scope_entry n one.items
       → (fit : Shapes) → IsShapedBy tables code fit → IsMet fit e s
   entry_bound n e one s is at shape_is fit shaped =
-      subst (IsMet fit e) (sym shape_is)
-      (subst (λ (m : ℕ). IsMet fit e (scope_entry m one.items)) (plain n)
-      (entry_met fit 0 tables.decls.scopes tables.scopes shaped.entries n one e is at))
-    where
-      plain : (n : ℕ) → 0 + n ≡ n
-      plain n = omega arith
+      let met = entry_there tables code fit shaped n e at in
+      let same = some_is one met.0 (sym is ∙ met.1) in
+      subst (IsMet fit e) (sym (shape_is ∙ ap (λ (x : Scope). scope_entry n x.items) same)) met.2
 
   pub entered_state : (forms : Forms) (found after : List Spot) (n e : ℕ) (left : List ℕ) (one : Scope) (s : Shape)
       → IsState tables code forms found n left → slice_get tables.decls.scopes n ≡ Some one

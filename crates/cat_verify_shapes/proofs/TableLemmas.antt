@@ -160,7 +160,7 @@ row_at None = code.Last
 abbrev pub senses_of : List Kind → Senses
 senses_of ks = record { one = λ n. one_at (most ks) (slice_get ks n) n; row = λ n. row_at (slice_get ks n) }
 
-enumeration_of : code.Form → ℕ
+unfoldable pub enumeration_of : code.Form → ℕ
 enumeration_of (code.OneOf n) = n
 enumeration_of _ = 0
 

@@ -11,8 +11,11 @@ use Rattle.cat_verify_shapes.specs.inside.Turns.{IsInside, HasTurn, HaveTurns}
 use Rattle.cat_verify_shapes.proofs.ListLemmas.{some_is, head_is, rest_is}
 use Rattle.cat_verify_shapes.proofs.CommonLemmas.{Alike}
 use Rattle.cat_verify_shapes.proofs.FlowCases.{FlowAll}
-use Rattle.cat_verify_shapes.proofs.LoopLemmas.{IsTurn, Stays, flow_stays, turn_met}
-use Rattle.cat_verify_shapes.proofs.OpenLoops.{LoopsOf, flow_loops}
+use Rattle.cat_verify_shapes.proofs.InsideLemmas.{IsTurn, StaysAt, Stays}
+use Rattle.cat_verify_shapes.proofs.InsideFlow.{flow_stays}
+use Rattle.cat_verify_shapes.proofs.TurnsMet.{turn_met}
+use Rattle.cat_verify_shapes.proofs.OpenLoops.{LoopsOf}
+use Rattle.cat_verify_shapes.proofs.FlowPlaces.{flow_loops}
 
 module _ (shapes : Shapes) (Looked : ℕ → Type 0) where
   -- a loop that began just in front of a place
@@ -40,7 +43,7 @@ module _ (shapes : Shapes) (Looked : ℕ → Type 0) where
   -- an old loop: what stands further is inside of its turn too
   old_loop : (p : ℕ) (s : Shape) (l : LoopShape) (ls : List LoopShape) → Looked p
       → (has : HasTurn shapes Looked p s l ls)
-      → (next : ℕ × Shape) (inners : List LoopShape) → Stays has.turn next → next.1.loops ≡ inners ++ l ∷ ls
+      → (next : ℕ × Shape) (inners : List LoopShape) → StaysAt has.turn next → next.1.loops ≡ inners ++ l ∷ ls
       → HasTurn shapes Looked next.0 next.1 l ls × Looked (l.begun + 1)
   old_loop p s l ls look has next inners stays e = (
     record {
@@ -63,18 +66,18 @@ module _ (shapes : Shapes) (Looked : ℕ → Type 0) where
       → HaveTurns shapes Looked p s
       → (to : List (ℕ × Shape)) → flow tables code i p s ≡ Some to → AllHave (IsComing p) to
   comes tables code p i s look turns to flows =
-      each to (subst (FlowAll (LoopsOf p s)) flows (flow_loops tables code i p s)) stay
+      each to (subst (FlowAll (AllHave (LoopsOf p s))) flows (flow_loops tables code i p s)) stay
     where
       turn_of : (l : LoopShape) (ls : List LoopShape) (has : HasTurn shapes Looked p s l ls) → IsTurn has.turn
       turn_of l ls has =
           record { loop = l; outer = ls; loops = has.loops; frames = has.frames; pending = has.pending }
 
-      stay : (l : LoopShape) (ls : List LoopShape) (has : HasTurn shapes Looked p s l ls) → AllHave (Stays has.turn) to
+      stay : (l : LoopShape) (ls : List LoopShape) (has : HasTurn shapes Looked p s l ls) → Stays has.turn to
       stay l ls has =
           subst (FlowAll (Stays has.turn)) flows (flow_stays has.turn (turn_of l ls has) tables code i p s has.inside)
 
       coming : (next : ℕ × Shape) → LoopsOf p s next
-          → ((l : LoopShape) (ls : List LoopShape) (has : HasTurn shapes Looked p s l ls) → Stays has.turn next)
+          → ((l : LoopShape) (ls : List LoopShape) (has : HasTurn shapes Looked p s l ls) → StaysAt has.turn next)
           → IsComing p next
       coming next (inl same) stays inners l ls e =
           let has = turns inners l ls (sym same ∙ e) in
@@ -98,7 +101,7 @@ module _ (shapes : Shapes) (Looked : ℕ → Type 0) where
       coming next (inr (inr (inr none))) stays inners l ls e = absurd (none_open inners l ls (sym none ∙ e))
 
       each : (to : List (ℕ × Shape)) → AllHave (LoopsOf p s) to
-          → ((l : LoopShape) (ls : List LoopShape) (has : HasTurn shapes Looked p s l ls) → AllHave (Stays has.turn) to)
+          → ((l : LoopShape) (ls : List LoopShape) (has : HasTurn shapes Looked p s l ls) → Stays has.turn to)
           → AllHave (IsComing p) to
       each [] loops stays = tt
       each (next ∷ to) loops stays = (

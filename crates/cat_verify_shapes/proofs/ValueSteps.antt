@@ -7,7 +7,6 @@ use Rattle.std.specs.Option.{option_map}
 use Rattle.cat_code.specs.declared.instr.Instr.TheVariants as instr
 use Rattle.cat_code.specs.declared.code.Tables.{Tables}
 use Rattle.cat_code.specs.Forms.{Form, Truth, slot_form}
-use Rattle.cat_code.specs.Shapes as meant
 use Rattle.cat_code.specs.Wanted.{is_so}
 use Rattle.cat_code.specs.Leads.{leads, leads_two, with, pushed, pop_as}
 use Rattle.cat_code.specs.Told.{is_scope}

@@ -5,6 +5,7 @@ use Rattle.std.proofs.Common.{subst}
 use Rattle.std.proofs.Common.{arith}
 use Rattle.std.proofs.lemmas.Bool.Decides.{nat_tests}
 use Rattle.cat_scope.specs.Names.{IsOneOf}
+use Rattle.cat_names.proofs.Exported.{in_front, behind}
 use Rattle.cat_image.specs.declared.tables.ImageTables.{ImageTables}
 use Rattle.cat_image.specs.Words.{Text}
 use Rattle.cat_verify_tables.specs.TypeWords.{IsTypeName}
@@ -12,24 +13,8 @@ use Rattle.cat_verify_tables.specs.WrongParts.{IsWrongName}
 use Rattle.cat_verify_tables.specs.inside.Entries.{AreRight}
 use Rattle.cat_verify_tables.specs.inside.NamedWords.{IsWrongHeader}
 use Rattle.cat_verify_tables.specs.inside.DeclaredWords.{structure_name, enumeration_name, structures_named}
-use Rattle.cat_verify_tables.proofs.MadeLemmas.{Apart, entry_named}
+use Rattle.cat_verify_tables.proofs.MadeLemmas.{Apart, entry_named, one_there}
 use Rattle.cat_verify_tables.proofs.RowLemmas.{right_at, split_at}
-
--- ---- one of some texts
-
-one_front : (xs ys : List Text) (x : Text) → IsOneOf x xs → IsOneOf x (xs ++ ys)
-one_front [] ys x one = absurd one
-one_front (z ∷ xs) ys x (inl same) = inl same
-one_front (z ∷ xs) ys x (inr more) = inr (one_front xs ys x more)
-
-one_behind : (xs ys : List Text) (x : Text) → IsOneOf x ys → IsOneOf x (xs ++ ys)
-one_behind [] ys x one = one
-one_behind (z ∷ xs) ys x one = inr (one_behind xs ys x one)
-
-one_at : (xs : List Text) (k : ℕ) (x : Text) → slice_get xs k ≡ Some x → IsOneOf x xs
-one_at [] k x at = absurd (cc at)
-one_at (y ∷ xs) zero x at = let same : y ≡ x = cc at in inl (sym same)
-one_at (y ∷ xs) (suc k) x at = inr (one_at xs k x at)
 
 -- a name in front of index j
 early : {A : Type 0} (name_of : A → Text) (xs : List A) (i j : ℕ) (w : Text) → slice_get (map name_of xs) i ≡ Some w
@@ -63,15 +48,15 @@ module _ {A : Type 0} (Spelled : Text → Type 0) (name_of : A → Text) (names 
     where
       by : (a : Bool) → nat_lt i j ≡ a → (b : Bool) → nat_lt j i ≡ b → i ≡ j
       by true less b more = absurd ((entry_right j w other).0
-          (one_behind names (map name_of (take j xs)) w (early name_of xs i j w one (grind (arith, nat_tests, less)))))
+          (behind w names (map name_of (take j xs)) (early name_of xs i j w one (grind (arith, nat_tests, less)))))
       by false less true more = absurd ((entry_right i w one).0
-          (one_behind names (map name_of (take i xs)) w
+          (behind w names (map name_of (take i xs))
           (early name_of xs j i w other (grind (arith, nat_tests, more)))))
       by false less false more = grind (arith, nat_tests, less, more)
 
   pub other_names : (i j : ℕ) (w : Text) → slice_get names i ≡ Some w → slice_get (map name_of xs) j ≡ Some w → ⊥
   other_names i j w one other =
-      (entry_right j w other).0 (one_front names (map name_of (take j xs)) w (one_at names i w one))
+      (entry_right j w other).0 (in_front w names (map name_of (take j xs)) (one_there names i w one))
 
   pub spelled_names : (k : ℕ) (w : Text) → slice_get (map name_of xs) k ≡ Some w → (Spelled w → ⊥) → ⊥
   spelled_names k w at = (entry_right k w at).1

@@ -128,9 +128,6 @@ module _ (tables : ImageTables) where
       ++ (map row.Function tables.functions ++ (map row.Position tables.positions
       ++ (map row.Constant tables.constants ++ []))))
 
-  all_rows : rows_of tables [] ≡ files ++ (structures ++ (enumerations ++ (scopes ++ tail)))
-  all_rows = refl
-
   behind_structures : rows_of tables [] ≡ (files ++ structures) ++ (enumerations ++ (scopes ++ tail))
   behind_structures = sym (append_assoc files structures (enumerations ++ (scopes ++ tail)))
 

@@ -4,7 +4,7 @@ use Rattle.std.proofs.Common.{map}
 use Rattle.std.proofs.Common.{Some, slice_get, inl, inr, refl, sym, ap, ◌∙◌, subst, arith, append-nil}
 use Rattle.std.specs.Prelude.{flat_map}
 use Rattle.std.proofs.lemmas.List.{append_assoc, length-append, length-map}
-use Rattle.cat_scope.specs.Names.{IsOneOf}
+use Rattle.cat_names.proofs.Exported.{in_front, behind}
 use Rattle.cat_image.specs.declared.row.Row.{Row}
 use Rattle.cat_image.specs.declared.row.Row.TheVariants as row
 use Rattle.cat_image.specs.declared.tables.ImageItem.{ImageItem}
@@ -25,15 +25,6 @@ use Rattle.cat_verify_tables.proofs.BadLemmas.{behind_enumerations, structures_e
 use Rattle.cat_verify_tables.proofs.FrontLemmas.{declared_both, declared_behind_files, enumerations_many}
 use Rattle.cat_verify_tables.proofs.FrontLemmas.{structures_declare, enumerations_declare, scopes_declare, scopes_many}
 use Rattle.cat_verify_tables.proofs.RowLemmas.{length_front, split_at}
-
-one_front : (xs ys : List Text) (x : Text) → IsOneOf x xs → IsOneOf x (xs ++ ys)
-one_front [] ys x one = absurd one
-one_front (z ∷ xs) ys x (inl same) = inl same
-one_front (z ∷ xs) ys x (inr more) = inr (one_front xs ys x more)
-
-one_behind : (xs ys : List Text) (x : Text) → IsOneOf x ys → IsOneOf x (xs ++ ys)
-one_behind [] ys x one = one
-one_behind (z ∷ xs) ys x one = inr (one_behind xs ys x one)
 
 module _ (tables : ImageTables) where
   -- the line of the first scope
@@ -83,7 +74,7 @@ module _ (tables : ImageTables) where
       bad_at tables (third + lines_in item_count (take faulty.index tables.scopes) + 0) line
       (omega (arith, faulty.fault.0))
       (scope_header_bad faulty.index faulty.entry faulty.at
-      (inl (one_front types_named (map scope_name (take faulty.index tables.scopes)) faulty.entry.name faulty.fault.1)))
+      (inl (in_front faulty.entry.name types_named (map scope_name (take faulty.index tables.scopes)) faulty.fault.1)))
 
   -- or one whose name stands there already, or isn't spelled as it has to be
   pub scope_name_bad : (line : ℕ) → IsFaultyIn item_count (IsWrongHeaderAt scope_name []) third tables.scopes line
@@ -92,12 +83,12 @@ module _ (tables : ImageTables) where
       bad_at tables (third + lines_in item_count (take faulty.index tables.scopes) + 0) line
       (omega (arith, faulty.fault.0))
       (scope_header_bad faulty.index faulty.entry faulty.at
-      (behind (map scope_name (take faulty.index tables.scopes)) faulty.entry.name faulty.fault.1))
+      (behind_types (map scope_name (take faulty.index tables.scopes)) faulty.entry.name faulty.fault.1))
     where
-      behind : (names : List Text) (name : Text) → IsWrongName IsTypeName names name
+      behind_types : (names : List Text) (name : Text) → IsWrongName IsTypeName names name
           → IsWrongName IsTypeName (types_named ++ names) name
-      behind names name (inl one) = inl (one_behind types_named names name one)
-      behind names name (inr other) = inr other
+      behind_types names name (inl one) = inl (behind name types_named names one)
+      behind_types names name (inr other) = inr other
 
   -- ---- items
 

@@ -9,7 +9,7 @@ use Rattle.cat_image.specs.declared.tables.ImageTables.{ImageTables}
 use Rattle.cat_image.specs.Words.{Text}
 use Rattle.cat_depend.specs.CycleWays.{LeadsTo}
 use Rattle.cat_verify_tables.specs.declared.types.TypeNames.{TypeNames}
-use Rattle.cat_verify_tables.specs.TypeWords.{IsBase, IsMadeOf}
+use Rattle.cat_verify_tables.specs.TypeWords.{IsMadeOf}
 use Rattle.cat_verify_tables.specs.TypeWords as words
 use Rattle.cat_verify_tables.specs.WrongParts.{ClosesCycle}
 use Rattle.cat_verify_tables.specs.inside.Causes.{lines_in}

@@ -82,7 +82,7 @@ enumerations_none (e ∷ es) =
 
 -- ---- where there are some
 
-scopes_parted : (others : List ImageScope) (s : ImageScope) (after : List ImageScope)
+pub scopes_parted : (others : List ImageScope) (s : ImageScope) (after : List ImageScope)
     → functions_in (flat_map scope_rows (others ++ s ∷ after)) ≡ functions_in (flat_map scope_rows others)
     + (functions_in (map row.Item s.items) + functions_in (flat_map scope_rows after))
 scopes_parted [] s after =
@@ -92,7 +92,7 @@ scopes_parted (o ∷ others) s after =
     let own = both_functions (map row.Item o.items) (flat_map scope_rows others) in
     let rest = scopes_parted others s after in omega (arith, all, own, rest)
 
-items_parted : (before : List ImageItem) (i : ImageItem) (behind : List ImageItem) → is_function i ≡ true
+pub items_parted : (before : List ImageItem) (i : ImageItem) (behind : List ImageItem) → is_function i ≡ true
     → functions_in (map row.Item before) < functions_in (map row.Item (before ++ i ∷ behind))
 items_parted [] i behind is = rw is (omega arith)
 items_parted (x ∷ before) i behind is = by (is_function x)
@@ -102,6 +102,29 @@ items_parted (x ∷ before) i behind is = by (is_function x)
     by : (b : Bool) (n m : ℕ) → n < m → (if b then 1 + n else n) < (if b then 1 + m else m)
     by true n m less = omega (arith, less)
     by false n m less = less
+
+-- what stands in front of an item has the functions of scopes and items in front
+pub functions_before : (image : ImageTables) (others : List ImageScope) (s : ImageScope) (before : List ImageItem)
+    → functions_in (before_item image others s before)
+    ≡ functions_in (flat_map scope_rows others) + functions_in (map row.Item before)
+functions_before image others s before =
+    let fs = files image in
+    let ss = structures image in
+    let es = enumerations image in
+    let cs = flat_map scope_rows others in
+    let own = row.Scope s.name s.entry ∷ map row.Item before in
+    omega (
+      arith,
+      both_functions (fs ++ ss ++ es ++ cs) own,
+      both_functions (fs ++ ss ++ es) cs,
+      both_functions (fs ++ ss) es,
+      both_functions fs ss,
+      files_none image.files,
+      structures_none image.structures,
+      enumerations_none image.enumerations,
+    )
+
+-- ---- as many as are declared
 
 module _ (known : Known) (plain : ArePlain known.types)
     (spelled : AllHave (λ name. (IsTypeName name → ⊥) → ⊥) (names_in known.scopes)) where
@@ -145,19 +168,10 @@ module _ (known : Known) (plain : ArePlain known.types)
       (behind : List ImageItem) → s.items ≡ before ++ i ∷ behind → is_function i ≡ true
       → functions_in (before_item tables others s before) < length (places.functions_from 0 scopes)
   fewer_before tables scopes told others s after are before i behind own function =
-      let front = files tables ++ structures tables ++ enumerations tables in
-      let os = flat_map scope_rows others in
-      let header = row.Scope s.name s.entry ∷ map row.Item before in
-      let a = both_functions (front ++ os) header in
-      let b = both_functions front os in
-      let c = both_functions (files tables ++ structures tables) (enumerations tables) in
-      let d = both_functions (files tables) (structures tables) in
-      let fs = files_none tables.files in
-      let ss = structures_none tables.structures in
-      let es = enumerations_none tables.enumerations in
+      let front = functions_before tables others s before in
       let all = ap (λ (xs : List ImageScope). functions_in (flat_map scope_rows xs)) are
       ∙ scopes_parted others s after in
       let items = ap (λ (xs : List ImageItem). functions_in (map row.Item xs)) own in
       let less = items_parted before i behind function in
       let count = scopes_counted 0 [] tables.scopes scopes told in
-      omega (arith, a, b, c, d, fs, ss, es, all, items, less, count)
+      omega (arith, front, all, items, less, count)

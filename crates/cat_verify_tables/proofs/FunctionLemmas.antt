@@ -56,10 +56,6 @@ plain_bytes : (word : Text) → is_plain word ≡ true → has_bytes word ≡ tr
 plain_bytes [] plain = plain
 plain_bytes (b ∷ bs) plain = refl
 
-abbrev first_of : Text → ℕ
-first_of [] = 0
-first_of (b ∷ bs) = b
-
 plain_no_list : (word other : Text) → is_plain word ≡ true → begin_list word other ≡ false
 plain_no_list word other plain = by (bytes_eq word (codes "list")) refl
   where

@@ -14,8 +14,8 @@ use Rattle.cat_verify_tables.specs.WrongParts.{params_text, more_params}
 use Rattle.cat_verify_tables.specs.inside.TypeNaming.{listed}
 use Rattle.cat_verify_tables.specs.inside.TypeNaming.{IsBehind}
 use Rattle.cat_verify_tables.specs.inside.ItemWords.{IsHeldType, IsHeldOf, HoldsNothing}
-use Rattle.cat_verify_tables.specs.inside.HeldWords.{ArePlain, held_in, IsHeldBase, HoldsNoBase, behind_blank}
-use Rattle.cat_verify_tables.specs.inside.HeldWords.{before_all, parted_by, texts_in, AreParamsIn, HasNoParams}
+use Rattle.cat_verify_tables.specs.inside.HeldWords.{ArePlain, IsHeldBase, HoldsNoBase}
+use Rattle.cat_verify_tables.specs.inside.HeldWords.{AreParamsIn}
 use Rattle.cat_verify_tables.proofs.HeldLemmas.{listed_both, IsNoList}
 use Rattle.cat_verify_tables.specs.inside.HeldWords.{IsHeldBare, HoldsNoneWith}
 use Rattle.cat_verify_tables.specs.inside.HeldWords as lacking

@@ -22,6 +22,7 @@ use Rattle.cat_verify_tables.specs.inside.PartWords.{Spells, SpellsNone}
 use Rattle.cat_verify_tables.specs.inside.TypeNaming.{flat_type, base_of, named_in, of_number, lists_of, listed}
 use Rattle.cat_verify_tables.proofs.NameLemmas.{one_of, not_one_of}
 use Rattle.cat_verify_tables.proofs.TypeLemmas.{flat_is, if_low}
+use Rattle.cat_verify_tables.proofs.PlainLemmas.{first_of}
 
 -- the names of types are those of structures and enumerations, spelled as they have to be
 pub record Knows (tables : ImageTables) (types : TypeNames) : Type 0 where
@@ -49,10 +50,6 @@ higher_down tables n zero text high =
 higher_down tables n (suc k) text high =
     let one : suc k + n ≡ suc (k + n) = omega arith in
     higher_down tables n k text (higher_less tables (k + n) text (subst (λ (m : ℕ). IsHigher tables m text) one high))
-
-abbrev first_of : Text → ℕ
-first_of [] = 0
-first_of (b ∷ bs) = b
 
 -- ---- words of types without parts
 

@@ -8,6 +8,7 @@ pub mod OrderLemmas
 pub mod RowLemmas
 pub mod FrontLemmas
 pub mod KnownLemmas
+pub mod WordBytes
 pub mod PlainLemmas
 pub mod HeldLemmas
 pub mod ParamLemmas
@@ -66,3 +67,4 @@ pub mod LowBy
 pub mod FunctionFaults
 pub mod Telling
 pub mod PlainValues
+pub mod Exported

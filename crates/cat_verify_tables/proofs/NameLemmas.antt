@@ -15,14 +15,6 @@ use Rattle.cat_verify_tables.specs.WrongParts.{IsWrongName}
 use Rattle.cat_verify_tables.specs.inside.NamedWords.{names_in, numbered}
 use Rattle.cat_verify_tables.proofs.EntryLemmas.{map_more}
 
-pub not_there : (b : Bool) → not b ≡ true → b ≡ false
-not_there false h = refl
-not_there true h = absurd (true≢false (sym h))
-
-pub is_there : (b : Bool) → not b ≡ false → b ≡ true
-is_there true h = refl
-is_there false h = absurd (true≢false h)
-
 -- a name that is new
 pub added : (table new : Table) (w : Text) (n : ℕ) → new ≡ with_name table w n
     → not (is_some (number_in table w)) ≡ true → new ≡ table ++ (w, n) ∷ []

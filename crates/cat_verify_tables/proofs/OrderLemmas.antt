@@ -1,9 +1,9 @@
 -- What types name, and the lines of their parts.
-use Rattle.std.proofs.Common.{◌≡◌, ◌≤◌, ◌<◌, ◌+◌, ◌-◌, ◌||◌, ℕ, zero, suc, nat_eq, nat_lt, Bool, true, false, IsTrue}
+use Rattle.std.proofs.Common.{◌≡◌, ◌≤◌, ◌<◌, ◌+◌, ◌-◌, ◌||◌, ℕ, zero, suc, nat_eq, Bool, true, false, IsTrue}
 use Rattle.std.proofs.Common.{List, [], ◌∷◌, ◌++◌, length, map, drop, get_or, Some, slice_get}
 use Rattle.std.proofs.Common.{refl, sym, ap, ◌∙◌, subst, arith, true≢false}
 use Rattle.std.proofs.lemmas.Bool.Decides.{nat_tests}
-use Rattle.std.proofs.lemmas.List.{drop_all, length-append, length-map}
+use Rattle.std.proofs.lemmas.List.{drop_all, length-map}
 use Rattle.cat_order.specs.Order.{is_listed}
 use Rattle.cat_order.specs.Cycle.{DependsOn}
 use Rattle.cat_value.specs.declared.ty.Ty.{Ty}
@@ -14,7 +14,6 @@ use Rattle.cat_value.specs.declared.declaration.Enumeration.{Enumeration}
 use Rattle.cat_value.specs.Dependencies.{named_by, named_by_fields, named_by_cases, type_dependencies}
 use Rattle.cat_value.proofs.DependencyEquations as names
 use Rattle.cat_depend.proofs.Listing.{listed_both}
-use Rattle.cat_depend.proofs.Cycles.{within_of_DependsOn}
 
 -- ---- each form of type
 
@@ -61,13 +60,6 @@ pub ruleset naming_types = (
 )
 
 -- ---- one number behind another
-
-pub behind_less : (from count number : ℕ) → nat_lt number from ≡ true → false ≡ nat_eq (from + count) number
-behind_less from count number less = grind (arith, nat_tests, less)
-
-pub behind_same : (from count number : ℕ) → nat_lt number from ≡ false
-    → nat_eq (number - from) count ≡ nat_eq (from + count) number
-behind_same from count number more = grind (arith, nat_tests, more)
 
 -- ---- which part names
 
@@ -129,14 +121,6 @@ module _ (ss : List Structure) (es : List Enumeration) (number part : ℕ)
 
   pub fields_name : (s : Structure) → slice_get ss number ≡ Some s → IsTrue (is_listed (fields s) part)
   fields_name s at = sym (ap (λ ns. is_listed ns part) (index_front fields ss (map cases es) number s [] at)) ∙ on
-
-  pub own_within : length ss ≤ number → number - length ss < length es
-  own_within past =
-      let below = within_of_DependsOn (type_dependencies ss es) number part on in
-      let many = length-append (map fields ss) (map cases es) in
-      let front = length-map ss fields in
-      let rest = length-map es cases in
-      omega (arith, below, many, front, rest, past)
 
   pub cases_name : (e : Enumeration) → length ss ≤ number → slice_get es (number - length ss) ≡ Some e
       → IsTrue (is_listed (cases e) part)

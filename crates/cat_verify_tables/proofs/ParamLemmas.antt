@@ -12,13 +12,11 @@ use Rattle.cat_image.specs.inside.Reads.{cut}
 use Rattle.cat_image.proofs.CutLemmas.{IsCutTo, cut_told, cut_at, shorter_behind}
 use Rattle.cat_verify_tables.specs.declared.types.TypeNames.{TypeNames}
 use Rattle.cat_verify_tables.specs.WrongParts.{more_params}
-use Rattle.cat_verify_tables.specs.inside.TypeNaming.{listed}
 use Rattle.cat_verify_tables.specs.inside.PartWords.{Spells, SpellsNone}
 use Rattle.cat_verify_tables.specs.inside.ItemWords.{AreParamsOf}
 use Rattle.cat_verify_tables.specs.inside.HeldWords.{ArePlain, behind_blank}
 use Rattle.cat_verify_tables.specs.inside.HeldWords.{before_all, parted_by, texts_in, AreParamsIn, HasNoParams}
-use Rattle.cat_verify_tables.proofs.PlainLemmas.{no_comma}
-use Rattle.cat_verify_tables.proofs.PlainLemmas.{no_byte}
+use Rattle.cat_verify_tables.proofs.PlainLemmas.{no_comma, listed_single}
 use Rattle.cat_verify_tables.proofs.HeldLemmas.{one_spelled, held_based}
 
 -- ---- texts that commas part
@@ -113,12 +111,6 @@ texts_back (suc most) first (next ∷ others) few single =
     let rest = texts_back most next others (omega (arith, few)) single.1 in
     ap (parted_by (texts_in most) (first ++ (codes ", " ++ behind))) (cut_at 44 first (32 ∷ behind) single.0)
     ∙ ap (before_all first) rest
-
-listed_single : (n : ℕ) (base : Text) → cut 44 base ≡ None → cut 44 (listed n base) ≡ None
-unfolding cut
-listed_single zero base none = none
-listed_single (suc n) base none =
-    no_byte 44 (codes "list of ") (listed n base) refl (listed_single n base none)
 
 module _ (types : TypeNames) (plain : ArePlain types) where
   pub spelled_single : (text : Text) (t : Ty) → Spells types text t → cut 44 text ≡ None

@@ -1,14 +1,11 @@
 -- A text tells what a variable holds in one way.
-use Rattle.std.proofs.Common.{◌≡◌, ◌<◌, ◌+◌, ◌⊎◌, ℕ, zero, suc, Bool, true, false, List, [], ◌∷◌, ◌++◌, length}
+use Rattle.std.proofs.Common.{◌≡◌, ◌+◌, ◌⊎◌, ℕ, zero, suc, Bool, true, false, List, [], ◌∷◌, ◌++◌, length}
 use Rattle.std.proofs.Common.{drop}
 use Rattle.std.proofs.Common.{Option, Some, None, inl, inr, refl, sym, ap, ◌∙◌, subst, arith, append-nil}
 use Rattle.std.specs.Prelude.{codes, is_some, nat_lt, if◌then◌else◌}
 use Rattle.std.specs.List.{AllByRecursion, AllZip}
 use Rattle.std.specs.Option.{option_map, option_or}
-use Rattle.std.specs.Str.{encode_utf8_all}
-use Rattle.std.proofs.lemmas.Bool.Decides.{nat_tests}
 use Rattle.std.proofs.lemmas.Option.{some_pair_parts}
-use Rattle.std.proofs.lemmas.Str.{encode_ascii}
 use Rattle.cat_scope.specs.Names.{IsOneOf}
 use Rattle.cat_value.specs.declared.ty.Ty.{Ty}
 use Rattle.cat_value.specs.declared.ty.Ty.TheVariants as flat
@@ -38,7 +35,7 @@ use Rattle.cat_verify_tables.proofs.MadeLemmas.{higher_of, named_of_spelled}
 use Rattle.cat_verify_tables.proofs.NameLemmas.{one_of}
 use Rattle.cat_verify_tables.proofs.NumberLemmas.{AreNumbered}
 use Rattle.cat_verify_tables.proofs.ParamLemmas.{AllSingle, all_single, spelled_single, texts_back}
-use Rattle.cat_verify_tables.proofs.PlainLemmas.{no_blank, no_list}
+use Rattle.cat_verify_tables.proofs.PlainLemmas.{no_blank, no_list, first_of, no_condition_name}
 
 parts_one : (base other : Text) (texts others : List Text) → cut 32 base ≡ None → cut 32 other ≡ None
     → AllSingle texts → AllSingle others → base ++ params_text texts ≡ other ++ params_text others
@@ -65,18 +62,6 @@ parts_one base other (t ∷ ts) (u ∷ us) one two first second same =
 
 -- ---- the word of conditions is no type
 
-abbrev first_of : Text → ℕ
-first_of [] = 0
-first_of (b ∷ bs) = b
-
-condition_no_name : IsTypeName (codes "condition") → ⊥
-condition_no_name w =
-    let begun = w.begun in
-    let small : w.first < 128 = grind (arith, nat_tests, begun) in
-    let first : 99 ≡ w.first = ap first_of
-    (w.spelled ∙ ap (λ (front : Text). front ++ encode_utf8_all w.others) (encode_ascii w.first small)) in
-    grind (arith, nat_tests, begun, first)
-
 condition_no_flat : flat_type (codes "condition") ≡ None
 unfolding flat_type
 condition_no_flat = refl
@@ -92,7 +77,7 @@ module _ (types : TypeNames) (plain : ArePlain types) where
           → option_map (of_number types.structures) (number_in types.numbers (codes "condition")) ≡ None
       by None is = ap (option_map (of_number types.structures)) is
       by (Some n) is = absurd (have_one (λ w. (IsTypeName w → ⊥) → ⊥) (codes "condition") (names_in types.numbers)
-          (one_of types.numbers (codes "condition") (ap is_some is)) plain condition_no_name)
+          (one_of types.numbers (codes "condition") (ap is_some is)) plain no_condition_name)
 
   no_condition : (text : Text) (t : Ty) → Spells types text t → text ≡ codes "condition" → ⊥
   no_condition text t spells is = by spells.lists (sym spells.behind.text_is ∙ is) spells.found_is

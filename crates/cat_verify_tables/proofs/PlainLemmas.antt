@@ -1,23 +1,22 @@
 -- Words that are parted by no blank, comma or dot, and that don't begin as lists do.
-use Rattle.std.proofs.Common.{◌≡◌, ℕ, ◌/◌, ◌%◌, ◌<◌, ◌≤◌, ◌+◌, ◌==◌, ◌&&◌, Bool, true, false, not, cond, ltb, List, []}
+use Rattle.std.proofs.Common.{◌≡◌, ℕ, ◌<◌, ◌≤◌, ◌==◌, ◌&&◌, Bool, true, false, not, ltb, []}
 use Rattle.std.proofs.Common.{◌∷◌, ◌++◌, Option, Some, None, refl, sym, ap, ◌∙◌, arith, true≢false}
 use Rattle.std.specs.Prelude.{codes}
-use Rattle.std.specs.Char.{encode_utf8, is_ascii_uppercase}
+use Rattle.std.specs.Char.{is_ascii_uppercase}
 use Rattle.std.specs.List.{list_all}
 use Rattle.std.specs.Str.{encode_utf8_all}
-use Rattle.std.proofs.lemmas.Bool.{and_parts}
+use Rattle.std.proofs.lemmas.Bool.{and_parts, and_from}
 use Rattle.std.proofs.lemmas.Bool.Decides.{nat_tests}
-use Rattle.std.proofs.lemmas.List.Folds.{list_all-append}
 use Rattle.std.proofs.lemmas.Str.{encode_ascii}
-use Rattle.std.proofs.Math.Utf8.{encode}
 use Rattle.unicode_ident.specs.Ident.{is_xid_start, is_xid_continue}
 use Rattle.unicode_ident.proofs.IdentLemmas.{is_xid_continue-ascii, is_xid_start-is_xid_continue}
 use Rattle.cat_value.specs.declared.ty.Ty.{Ty}
 use Rattle.cat_image.specs.Words.{Text}
 use Rattle.cat_image.specs.inside.Reads.{cut}
 use Rattle.cat_verify_tables.specs.TypeWords.{IsTypeName, IsPartName}
-use Rattle.cat_verify_tables.specs.inside.TypeNaming.{flat_type}
+use Rattle.cat_verify_tables.specs.inside.TypeNaming.{flat_type, listed}
 use Rattle.cat_verify_tables.proofs.TypeLemmas.{flat_is}
+use Rattle.cat_verify_tables.proofs.WordBytes.{chars_bytes}
 
 -- ---- bytes
 
@@ -28,51 +27,14 @@ is_inner b = not (b == 32) && not (b == 44) && not (b == 46)
 abbrev pub is_unparted : Text → Bool
 is_unparted bytes = list_all is_inner bytes
 
-both : (a b : Bool) → a ≡ true → b ≡ true → (a && b) ≡ true
-both true b one two = two
-both false b one two = one
-
 high : (b : ℕ) → 128 ≤ b → is_inner b ≡ true
 high b up = grind (arith, nat_tests)
-
-next_high : (n : ℕ) → is_inner (128 + n % 64) ≡ true
-next_high n = high (128 + n % 64) (omega arith)
-
-high_bytes : (c : ℕ) → ltb c 128 ≡ false → is_unparted (encode_utf8 c) ≡ true
-unfolding encode
-high_bytes c not_low = rw not_low (by (ltb c 2048) (ltb c 65536))
-  where
-    by : (b d : Bool)
-        → is_unparted (cond b ((192 + c / 64) ∷ (128 + c % 64) ∷ [])
-        (cond d ((224 + c / 4096) ∷ (128 + (c / 64) % 64) ∷ (128 + c % 64) ∷ [])
-        ((240 + c / 262144) ∷ (128 + (c / 4096) % 64) ∷ (128 + (c / 64) % 64) ∷ (128 + c % 64) ∷ []))) ≡ true
-    by true d = rw (high (192 + c / 64) (omega arith), next_high c) refl
-    by false true = rw (high (224 + c / 4096) (omega arith), next_high (c / 64), next_high c) refl
-    by false false =
-        rw (high (240 + c / 262144) (omega arith), next_high (c / 4096), next_high (c / 64), next_high c) refl
 
 low_byte : (c : ℕ) → ltb c 128 ≡ true → is_xid_continue c ≡ true → is_inner c ≡ true
 low_byte c low continues =
     let below : c < 128 = grind (arith, nat_tests) in
     let is = sym (is_xid_continue-ascii c below) ∙ continues in
     grind (arith, nat_tests)
-
-char_bytes : (c : ℕ) → is_xid_continue c ≡ true → is_unparted (encode_utf8 c) ≡ true
-char_bytes c continues = by (ltb c 128) refl
-  where
-    by : (b : Bool) → ltb c 128 ≡ b → is_unparted (encode_utf8 c) ≡ true
-    by true low =
-        let below : c < 128 = grind (arith, nat_tests) in
-        ap is_unparted (encode_ascii c below) ∙ both (is_inner c) true (low_byte c low continues) refl
-    by false not_low = high_bytes c not_low
-
-chars_bytes : (cs : List ℕ) → list_all is_xid_continue cs ≡ true → is_unparted (encode_utf8_all cs) ≡ true
-chars_bytes [] continue = refl
-chars_bytes (c ∷ cs) continue =
-    let parts = and_parts (is_xid_continue c) (list_all is_xid_continue cs) continue in
-    list_all-append is_inner (encode_utf8 c) (encode_utf8_all cs)
-    ∙ both (is_unparted (encode_utf8 c)) (is_unparted (encode_utf8_all cs)) (char_bytes c parts.0)
-    (chars_bytes cs parts.1)
 
 -- ---- words
 
@@ -92,8 +54,9 @@ named_plain word w =
     let spelled : word ≡ w.first ∷ encode_utf8_all w.others =
     w.spelled ∙ ap (λ (front : Text). front ++ encode_utf8_all w.others) (encode_ascii w.first small) in
     ap is_plain spelled
-    ∙ both (not (w.first == 108)) (is_unparted (w.first ∷ encode_utf8_all w.others)) other
-    (both (is_inner w.first) (is_unparted (encode_utf8_all w.others)) inner (chars_bytes w.others w.continued))
+    ∙ and_from (not (w.first == 108)) (is_unparted (w.first ∷ encode_utf8_all w.others)) other
+    (and_from (is_inner w.first) (is_unparted (encode_utf8_all w.others)) inner
+    (chars_bytes is_inner high low_byte w.others w.continued))
 
 -- what is no other than the name of a type
 pub not_other_plain : (word : Text) → ((IsTypeName word → ⊥) → ⊥) → is_plain word ≡ true
@@ -134,8 +97,8 @@ part_unparted word part =
     let w = part.0 in
     let starts = (and_parts (is_xid_start w.first) (not (is_ascii_uppercase w.first)) w.begun).0 in
     ap is_unparted w.spelled
-    ∙ chars_bytes (w.first ∷ w.others)
-    (both (is_xid_continue w.first) (list_all is_xid_continue w.others)
+    ∙ chars_bytes is_inner high low_byte (w.first ∷ w.others)
+    (and_from (is_xid_continue w.first) (list_all is_xid_continue w.others)
     (is_xid_start-is_xid_continue w.first starts) w.continued)
 
 pub part_no_dot : (word : Text) → ((IsPartName word → ⊥) → ⊥) → cut 46 word ≡ None
@@ -145,9 +108,20 @@ part_no_dot word part = no_dot word (by (is_unparted word) refl)
     by true is = refl
     by false is = absurd (part (λ name. true≢false (sym (part_unparted word name) ∙ is)))
 
-abbrev first_of : Text → ℕ
+-- the byte with which a text begins
+abbrev pub first_of : Text → ℕ
 first_of [] = 0
 first_of (b ∷ bs) = b
+
+-- the word of conditions is no type
+pub no_condition_name : IsTypeName (codes "condition") → ⊥
+no_condition_name w =
+    let begun = w.begun in
+    let small : w.first < 128 = grind (arith, nat_tests, begun) in
+    let upper : w.first ≤ 90 = grind (arith, nat_tests, begun) in
+    let first : 99 ≡ w.first =
+    ap first_of (w.spelled ∙ ap (λ (front : Text). front ++ encode_utf8_all w.others) (encode_ascii w.first small)) in
+    omega (arith, first, upper)
 
 -- no list begins with a word
 pub no_list : (word more rest : Text) → is_plain word ≡ true → word ++ more ≡ codes "list of " ++ rest → ⊥
@@ -173,3 +147,9 @@ no_byte byte (b ∷ one) other first second =
     by rest false is (Some p) at none =
         let there : cut byte (b ∷ one) ≡ Some (b ∷ p.0, p.1) = rw (is, at) refl in absurd (cc (sym none ∙ there))
     by rest false is None at none = rw (is, rest at) refl
+
+-- a list of what has no comma has none
+pub listed_single : (n : ℕ) (base : Text) → cut 44 base ≡ None → cut 44 (listed n base) ≡ None
+unfolding cut
+listed_single zero base none = none
+listed_single (suc n) base none = no_byte 44 (codes "list of ") (listed n base) refl (listed_single n base none)

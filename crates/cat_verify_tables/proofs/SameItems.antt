@@ -21,7 +21,7 @@ use Rattle.cat_value.specs.Declarations.{kind_is_sound}
 use Rattle.cat_value.specs.Heights.{height_to}
 use Rattle.cat_listing.specs.Texts.{lines_of, name_at, type_text}
 use Rattle.cat_listing.specs.DeclarationLines as listing
-use Rattle.cat_listing.specs.DeclarationLines.{defined_text, param_text, variable_text, what_text}
+use Rattle.cat_listing.specs.DeclarationLines.{defined_text, param_text, what_text}
 use Rattle.cat_image.specs.declared.tables.ImagePos.{ImagePos}
 use Rattle.cat_image.specs.declared.tables.ImageKind.{ImageKind}
 use Rattle.cat_image.specs.declared.tables.ImageKind.TheVariants as words

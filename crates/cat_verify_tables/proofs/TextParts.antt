@@ -1,11 +1,8 @@
 -- Texts in front of a byte, and types in front of blanks and commas.
-use Rattle.std.proofs.Common.{◌≡◌, ◌<◌, ◌≤◌, ◌+◌, ℕ, zero, suc, true, [], ◌∷◌, ◌++◌, Some, None, refl, sym, ap}
+use Rattle.std.proofs.Common.{◌≡◌, ◌+◌, ℕ, suc, true, [], ◌∷◌, ◌++◌, Some, None, refl, sym, ap}
 use Rattle.std.proofs.Common.{◌∙◌, subst, arith, append-nil}
 use Rattle.std.specs.Prelude.{codes}
-use Rattle.std.specs.Str.{encode_utf8_all}
-use Rattle.std.proofs.lemmas.Bool.Decides.{nat_tests}
 use Rattle.std.proofs.lemmas.Option.{some_pair_parts}
-use Rattle.std.proofs.lemmas.Str.{encode_ascii}
 use Rattle.cat_value.specs.declared.ty.Ty.{Ty}
 use Rattle.cat_image.specs.declared.tables.ImageTables.{ImageTables}
 use Rattle.cat_image.specs.Words.{Text}
@@ -17,8 +14,8 @@ use Rattle.cat_verify_tables.specs.inside.TypeNaming.{flat_type, listed}
 use Rattle.cat_verify_tables.proofs.HeldLemmas.{listed_both, one_base}
 use Rattle.cat_verify_tables.proofs.MadeLemmas.{Apart, IsNamed}
 use Rattle.cat_verify_tables.proofs.MadeLemmas as named
-use Rattle.cat_verify_tables.proofs.PlainLemmas.{flat_plain, is_plain, no_blank, no_byte, no_comma, no_list}
-use Rattle.cat_verify_tables.proofs.PlainLemmas.{not_other_plain}
+use Rattle.cat_verify_tables.proofs.PlainLemmas.{flat_plain, is_plain, no_blank, no_comma, no_list}
+use Rattle.cat_verify_tables.proofs.PlainLemmas.{not_other_plain, first_of, listed_single, no_condition_name}
 
 -- a text that begins with a byte, or is empty
 abbrev pub BeginsWith : ℕ → Text → Type 0
@@ -68,29 +65,11 @@ front_one w v r q one other begins ends same =
       parts.1,
     )
 
-listed_single : (n : ℕ) (base : Text) → cut 44 base ≡ None → cut 44 (listed n base) ≡ None
-unfolding cut
-listed_single zero base none = none
-listed_single (suc n) base none = no_byte 44 (codes "list of ") (listed n base) refl (listed_single n base none)
-
 pub single : (text : Text) → IsListed text → cut 44 text ≡ None
 single text it = ap (cut 44) it.text_is ∙ listed_single it.lists it.base (no_comma it.base it.plain)
 
 pub condition_listed : IsListed (codes "condition")
 condition_listed = record { lists = 0; base = codes "condition"; text_is = refl; plain = refl }
-
-abbrev first_of : Text → ℕ
-first_of [] = 0
-first_of (b ∷ bs) = b
-
-no_condition_name : IsTypeName (codes "condition") → ⊥
-no_condition_name w =
-    let begun = w.begun in
-    let small : w.first < 128 = grind (arith, nat_tests, begun) in
-    let upper : w.first ≤ 90 = grind (arith, nat_tests, begun) in
-    let first : 99 ≡ w.first =
-    ap first_of (w.spelled ∙ ap (λ (front : Text). front ++ encode_utf8_all w.others) (encode_ascii w.first small)) in
-    omega (arith, first, upper)
 
 module _ (tables : ImageTables) (apart : Apart tables) where
   abbrev Named : Text → Ty → Type 0

@@ -1,5 +1,5 @@
 -- Tables that were told have no bad line.
-use Rattle.std.proofs.Common.{◌≡◌, ◌≤◌, ℕ, true, List, [], ◌∷◌, ◌++◌, length, map, inl, inr}
+use Rattle.std.proofs.Common.{◌≡◌, ◌≤◌, ℕ, true, List, [], ◌∷◌, length, map, inl, inr}
 use Rattle.std.proofs.Common.{sym, ap, ◌∙◌, subst, arith}
 use Rattle.std.specs.Prelude.{nat_le}
 use Rattle.std.proofs.lemmas.Bool.{and_parts}
@@ -13,6 +13,7 @@ use Rattle.cat_value.specs.declared.decls.Decls.{Decls}
 use Rattle.cat_value.specs.Declarations.{highest, is_declared}
 use Rattle.cat_value.specs.Dependencies.{type_dependencies}
 use Rattle.cat_value.specs.Heights.{height_to}
+use Rattle.cat_names.proofs.Exported.{in_front, behind}
 use Rattle.cat_code.specs.declared.code.Constant.{Constant}
 use Rattle.cat_code.specs.declared.code.TargetEntry.{TargetEntry}
 use Rattle.cat_code.specs.declared.code.Tables.{Tables}
@@ -42,7 +43,7 @@ use Rattle.cat_verify_tables.proofs.AllRight.{none_is_bad}
 use Rattle.cat_verify_tables.proofs.ApartLemmas.{names_apart}
 use Rattle.cat_verify_tables.proofs.HeaderLemmas.{are_plain, knows, numbers_are, scopes_spelled}
 use Rattle.cat_verify_tables.proofs.KnownLemmas.{flat_there, spelled_known}
-use Rattle.cat_verify_tables.proofs.MadeLemmas.{Apart, IsNamed, entry_named, high_of, index_of, one_there, told_for}
+use Rattle.cat_verify_tables.proofs.MadeLemmas.{Apart, IsNamed, high_of, index_of, one_there, told_for}
 use Rattle.cat_verify_tables.proofs.MadeLemmas as named
 use Rattle.cat_verify_tables.proofs.NumberLemmas.{AreNumbered}
 use Rattle.cat_verify_tables.proofs.OneText.{named_text, text_only}
@@ -76,19 +77,9 @@ named_known : (tables : ImageTables) (w : Text) (t : Ty)
     → IsNamed (structures_named tables) (enumerations_named tables) w t → IsKnown tables w
 named_known tables w t (named.plain v x is) = words.flat (flat_there v x is)
 named_known tables w t (named.structure v k at) = words.declared
-    (one_front (structures_named tables) (enumerations_named tables) v (one_there (structures_named tables) k v at))
-  where
-    one_front : (xs ys : List Text) (x : Text) → IsOneOf x xs → IsOneOf x (xs ++ ys)
-    one_front [] ys x one = absurd one
-    one_front (z ∷ xs) ys x (inl same) = inl same
-    one_front (z ∷ xs) ys x (inr more) = inr (one_front xs ys x more)
+    (in_front v (structures_named tables) (enumerations_named tables) (one_there (structures_named tables) k v at))
 named_known tables w t (named.enumeration v k at) = words.declared
-    (one_behind (structures_named tables) (enumerations_named tables) v
-    (one_there (enumerations_named tables) k v at))
-  where
-    one_behind : (xs ys : List Text) (x : Text) → IsOneOf x ys → IsOneOf x (xs ++ ys)
-    one_behind [] ys x one = one
-    one_behind (z ∷ xs) ys x one = inr (one_behind xs ys x one)
+    (behind v (structures_named tables) (enumerations_named tables) (one_there (enumerations_named tables) k v at))
 named_known tables w t (named.list v u is) = words.list (named_known tables v u is)
 
 -- the law of orders on which this rests

@@ -12,9 +12,6 @@ use Rattle.cat_check_names.specs.Table.{Table}
 use Rattle.cat_image.specs.Words.{Text}
 use Rattle.cat_verify_tables.specs.inside.TypeNaming.{flat_type, base_of, lists_of, listed, IsBehind, IsTyped}
 
-pub lists_more : (n : ℕ) (t whole : Ty) → whole ≡ lists_of n t → lists_of (suc n) t ≡ lists_of (n + 1) t
-lists_more n t whole is = let one : suc n ≡ n + 1 = omega arith in ap (λ (k : ℕ). lists_of k t) one
-
 listed_inside : (n : ℕ) (element : Text) → listed n (codes "list of " ++ element) ≡ listed (suc n) element
 listed_inside zero element = refl
 listed_inside (suc n) element = ap (λ (t : Text). codes "list of " ++ t) (listed_inside n element)

@@ -1,7 +1,8 @@
 use Rattle.std.proofs.Common.{List, ap}
+use Rattle.std.proofs.lemmas.Bool.{not-true, not-false}
 use Rattle.cat_verify_shapes.specs.inside.Taking.{own_frames}
 use Rattle.cat_verify_shapes.specs.declared.shape.FrameShape.{FrameShape}
-use Rattle.cat_verify_shapes.proofs.CountLemmas.{fewer_so, fewer_not, off_by_not, on_by_not}
+use Rattle.cat_verify_shapes.proofs.CountLemmas.{fewer_so, fewer_not}
 use Rattle.cat_verify_shapes.proofs.DefaultSteps.{take_outside, take_nothing, take_unchecked, take_so}
 use Rattle.cat_verify_shapes.proofs.defaults.take.Goals as goal
 
@@ -33,7 +34,7 @@ returns-then-not-frame c =
     take_unchecked tables forms p s (record s { defaults = c.pop.new.self }) c.args.other c.in-Some.frame
     (fewer_not 1 c.own_frames.result (own_frames s) c.own_frames.ensures c.if-own_frames-lt1.false)
     (ap (λ (fs : List FrameShape). record s { defaults = fs }) c.in-Some.ensures)
-    (off_by_not c.in-Some.frame.checked c.if-not-frame.true)
+    (not-true c.in-Some.frame.checked c.if-not-frame.true)
 
 pub returns : goal.returns
 returns c =
@@ -45,5 +46,5 @@ returns c =
     c.in-Some.frame c.push.new.self
     (fewer_not 1 c.own_frames.result (own_frames s) c.own_frames.ensures c.if-own_frames-lt1.false)
     (ap (λ (fs : List FrameShape). record s { defaults = fs }) c.in-Some.ensures)
-    (on_by_not c.in-Some.frame.checked c.if-not-frame.false)
+    (not-false c.in-Some.frame.checked c.if-not-frame.false)
     c.in_ok-without.ensures c.in_ok-push.ensures.ok

@@ -1,5 +1,6 @@
 use Rattle.std.proofs.Common.{◌∙◌, refl, sym}
-use Rattle.cat_verify_tables.proofs.NameLemmas.{added, is_there, not_there, not_one_of, one_of}
+use Rattle.std.proofs.lemmas.Bool.{not-true, not-false}
+use Rattle.cat_verify_tables.proofs.NameLemmas.{added, not_one_of, one_of}
 use Rattle.cat_verify_tables.proofs.named.add.Goals as goal
 
 pub returns-clause-added : goal.returns-clause-added
@@ -9,10 +10,10 @@ returns-clause-added c =
 
 pub returns-clause-fresh : goal.returns-clause-fresh
 returns-clause-fresh c =
-    not_one_of c.args.names.now c.args.name.now (not_there _ (sym c.in_ok-fresh.ensures.fresh ∙ c.if-not-fresh.false))
+    not_one_of c.args.names.now c.args.name.now (not-true _ (sym c.in_ok-fresh.ensures.fresh ∙ c.if-not-fresh.false))
 
 pub returns-then-not-fresh-clause-cause : goal.returns-then-not-fresh-clause-cause
 returns-then-not-fresh-clause-cause c = (
   refl,
-  one_of c.args.names.now c.args.name.now (is_there _ (sym c.in_ok-fresh.ensures.fresh ∙ c.if-not-fresh.true)),
+  one_of c.args.names.now c.args.name.now (not-false _ (sym c.in_ok-fresh.ensures.fresh ∙ c.if-not-fresh.true)),
 )
