@@ -12,9 +12,9 @@ use Rattle.cat_code.specs.Flow.{flow}
 use Rattle.cat_verify_shapes.proofs.ListLemmas.{none_some, some_is}
 use Rattle.cat_verify_shapes.proofs.MeetingLemmas.{meets_then}
 use Rattle.cat_verify_shapes.proofs.LessKnown.{AllNext, FlowMeets}
-use Rattle.cat_verify_shapes.proofs.FlowLemmas.{less_known}
 use Rattle.cat_verify_shapes.proofs.CommonLemmas.{Alike, alike_of, common_of, common_greatest}
 use Rattle.cat_verify_shapes.proofs.FineLemmas.{fine_there}
+use Rattle.cat_verify_shapes.proofs.LessKnownFlow.{less_known}
 
 module _ (tables : Tables) (code : List Instr) (fit : Shapes) where
   -- some shape of a place is met by a shape that leads there

@@ -281,7 +281,7 @@ module _ (tables : Tables) (p : ℕ) (s : Shape) (Lead : List (ℕ × Shape) →
       (λ t. as_all Lead t s (λ s. where_so
       (has_none s.operands && has_none s.defaults && has_none s.loops && has_none s.pending) (Some []))
       (λ ts. where_all Lead (has_none ts && has_none s.defaults && has_none s.loops && has_none s.pending)
-      (Some []) (λ e. tt)))
+      (Some []) (λ e. lead [] (refl, tt))))
   flow_to code (instr.Begin v) lead =
       with_all Lead (slice_get tables.targets v)
       (λ entry. with (target_form tables.decls entry.target) (λ t. leads (p + 1) (record s {
@@ -333,7 +333,7 @@ module _ (tables : Tables) (p : ℕ) (s : Shape) (Lead : List (ℕ × Shape) →
       (leads_two (p + 1) (pushed f.holds (record s { defaults = fs })) t (record s { defaults = fs }))
       (λ e. lead _ (refl, (inl refl, (inl refl, tt))))))
   flow_to code (instr.NoValue v) lead =
-      where_all Lead (nat_lt v (length tables.targets)) (Some []) (λ e. tt)
+      where_all Lead (nat_lt v (length tables.targets)) (Some []) (λ e. lead [] (refl, tt))
   flow_to code (instr.Assert q) lead =
       where_all Lead (nat_lt q (length tables.positions)) (pop_as Truth s (λ s. leads (p + 1) s))
       (λ e. as_all Lead Truth s (λ s. leads (p + 1) s) (λ ts. lead _ (refl, (inl refl, tt))))

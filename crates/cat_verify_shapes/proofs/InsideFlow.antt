@@ -26,7 +26,7 @@ use Rattle.cat_verify_shapes.proofs.FlowCases.{elements_all, fields_all, collect
 use Rattle.cat_verify_shapes.proofs.InsideLemmas.{IsTurn, Stays, begins_one, enough, enough_pending}
 use Rattle.cat_verify_shapes.proofs.InsideLemmas.{first_of, frame_again, left_one, merge_stays, no_loops}
 use Rattle.cat_verify_shapes.proofs.InsideLemmas.{operated_stays, take_stays, with_filled, with_frames, with_operands}
-use Rattle.cat_verify_shapes.proofs.InsideLemmas.{with_pending, with_stacks}
+use Rattle.cat_verify_shapes.proofs.InsideLemmas.{with_pending, with_stacks, ended_stays}
 
 module _ (turn : Shape) (is_turn : IsTurn turn) where
   pub flow_stays : (tables : Tables) (code : List Instr) (i : Instr) (p : ℕ) (s : Shape) → IsInside turn s

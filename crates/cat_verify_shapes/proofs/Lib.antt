@@ -11,13 +11,13 @@ mod CalledLemmas
 mod CalleeLemmas
 mod ComingLemmas
 mod CommonLemmas
+mod ComparedForms
 mod CountLemmas
 mod DeclLemmas
 mod DefaultSteps
 pub mod Exported
 mod FineLemmas
 mod FlowCases
-mod FlowLemmas
 mod FlowPlaces
 mod FrameLemmas
 mod FrontLemmas
@@ -27,6 +27,11 @@ mod InsideFlow
 mod InsideLemmas
 mod KeyLemmas
 mod LessKnown
+mod LessKnownCalls
+mod LessKnownDefaults
+mod LessKnownFlow
+mod LessKnownLoops
+mod LessKnownPairs
 mod ListLemmas
 mod LookSteps
 mod LookingLemmas

@@ -1,8 +1,7 @@
 -- Where operators lead.
-use Rattle.std.proofs.Common.{◌≡◌, ◌⊎◌, inl, inr, ℕ, ◌+◌, nat_eq, nat_lt, ◌&&◌, Bool, true, false}
-use Rattle.std.proofs.Common.{true≢false}
-use Rattle.std.proofs.Common.{List, [], ◌∷◌, length, map, Option, Some, None, slice_get, refl, sym, ap, ◌∙◌, subst}
-use Rattle.std.specs.Prelude.{Result, Ok, Err, if◌then◌else◌}
+use Rattle.std.proofs.Common.{◌≡◌, ◌⊎◌, inl, inr, ℕ, ◌+◌, nat_eq, nat_lt, ◌&&◌, Bool, true, false, List, [], ◌∷◌}
+use Rattle.std.proofs.Common.{length, map, Option, Some, None, slice_get, refl, sym, ap, ◌∙◌, subst}
+use Rattle.std.specs.Prelude.{Result, Ok, Err}
 use Rattle.std.proofs.lemmas.Bool.{eq-eqb, and_from, and_right, and_left}
 use Rattle.cat_value.specs.declared.ty.Ty.{Ty}
 use Rattle.cat_value.specs.declared.ty.Ty.TheVariants as ty
@@ -21,7 +20,6 @@ use Rattle.cat_code.specs.Wanted.{signed}
 use Rattle.cat_code.specs.Leads.{Flow, leads, with, pushed, pop, operated}
 use Rattle.cat_code.specs.Flow.{flow}
 use Rattle.cat_code.proofs.FormLaws.{form_Boolean, form_Integer, form_Decimal, form_Money, form_Date, form_Duration}
-use Rattle.cat_code.proofs.FormLaws.{same_is}
 use Rattle.cat_verify_shapes.specs.declared.forms.Form.{Form}
 use Rattle.cat_verify_shapes.specs.declared.forms.Form.TheVariants as form
 use Rattle.cat_verify_shapes.specs.declared.forms.Forms.{Forms}
@@ -35,12 +33,12 @@ use Rattle.cat_verify_shapes.specs.inside.Senses.{Senses, AreSenses, Means}
 use Rattle.cat_verify_shapes.specs.inside.Told.{shape_of, leads_of, Tells}
 use Rattle.cat_verify_shapes.specs.inside.Taking.{Takes}
 use Rattle.cat_verify_shapes.specs.inside.Operators.{type_of, IsOf, IsNamed, TakesForm, TakesBoth, is_compared}
-use Rattle.cat_verify_shapes.specs.inside.Operators.{Compares}
-use Rattle.cat_verify_shapes.specs.inside.Operators.{AreUnlike, GivesForm, Operates}
+use Rattle.cat_verify_shapes.specs.inside.Operators.{Compares, AreUnlike, GivesForm, Operates}
 use Rattle.cat_verify_shapes.proofs.ListLemmas.{none_some, some_is}
 use Rattle.cat_verify_shapes.proofs.StepLemmas.{with_is, with_not, where_is, where_not, pop_none, pop_some, as_so}
-use Rattle.cat_verify_shapes.proofs.StepLemmas.{as_not}
-use Rattle.cat_verify_shapes.proofs.StepLemmas.{AreApart, comes_by}
+use Rattle.cat_verify_shapes.proofs.StepLemmas.{as_not, AreApart, comes_by}
+use Rattle.cat_verify_shapes.proofs.ComparedForms.{chosen, any_same, signed_self, signed_apart, ordered_forms}
+use Rattle.cat_verify_shapes.proofs.ComparedForms.{compared_forms, forms_of, any_is}
 
 flat_means : (ds : Decls) (d : Senses) (n : ℕ) (f : Form) (t : Ty) → type_of f ≡ Some t → Means d n f
     → d.one n ≡ form_of ds t
@@ -55,94 +53,6 @@ flat_means ds d n (form.Fields k) t e m = absurd (none_some t e)
 flat_means ds d n (form.OneOf k) t e m = absurd (none_some t e)
 flat_means ds d n form.Last t e m = absurd (none_some t e)
 flat_means ds d n (form.More k l) t e m = absurd (none_some t e)
-
--- ---- signatures
-
-abbrev chosen : Bool → Ty → Option Ty → Option Ty
-chosen so t other = if so then Some t else other
-
--- what is compared with itself gives a truth value, where its type is one of these
-abbrev any_same : code.Form → List code.Form → Bool
-any_same t [] = false
-any_same t (u ∷ us) = if same_form t u then true else any_same t us
-
-module _ (form_ : Ty → code.Form) where
-  signed_self : (tys : List Ty) (t : code.Form)
-      → signed form_ (map comparison tys) t t ≡ chosen (any_same t (map form_ tys)) ty.Boolean None
-  signed_self [] t = refl
-  signed_self (x ∷ tys) t = by_test (same_form t (form_ x)) (signed_self tys t)
-    where
-      by_test : (b : Bool)
-          → signed form_ (map comparison tys) t t ≡ chosen (any_same t (map form_ tys)) ty.Boolean None
-          → chosen (b && b) ty.Boolean (signed form_ (map comparison tys) t t)
-          ≡ chosen (if b then true else any_same t (map form_ tys)) ty.Boolean None
-      by_test true rest = refl
-      by_test false rest = rest
-
-  signed_apart : (tys : List Ty) (t u : code.Form) → same_form t u ≡ false
-      → signed form_ (map comparison tys) t u ≡ None
-  signed_apart [] t u other = refl
-  signed_apart (x ∷ tys) t u other =
-      by_tests (same_form t (form_ x)) (same_form u (form_ x)) refl refl (signed_apart tys t u other)
-    where
-      by_tests : (a b : Bool) → same_form t (form_ x) ≡ a → same_form u (form_ x) ≡ b
-          → signed form_ (map comparison tys) t u ≡ None
-          → chosen (a && b) ty.Boolean (signed form_ (map comparison tys) t u) ≡ None
-      by_tests true true e f rest =
-          absurd (true≢false (sym (ap (same_form t) (same_is u (form_ x) f) ∙ e) ∙ other))
-      by_tests true false e f rest = rest
-      by_tests false b e f rest = rest
-
-module _ (ds : Decls) where
-  ordered_forms : map (form_of ds) ordered_types
-      ≡ code.Whole ∷ code.Fraction ∷ code.Amount ∷ code.Day ∷ code.Span ∷ []
-  ordered_forms =
-      ap (λ (t : code.Form). t ∷ form_of ds ty.Decimal ∷ form_of ds ty.Money ∷ form_of ds ty.Date
-      ∷ form_of ds ty.Duration ∷ []) (form_Integer ds)
-      ∙ ap (λ (t : code.Form). code.Whole ∷ t ∷ form_of ds ty.Money ∷ form_of ds ty.Date ∷ form_of ds ty.Duration ∷ [])
-      (form_Decimal ds)
-      ∙ ap (λ (t : code.Form). code.Whole ∷ code.Fraction ∷ t ∷ form_of ds ty.Date ∷ form_of ds ty.Duration ∷ [])
-      (form_Money ds)
-      ∙ ap (λ (t : code.Form). code.Whole ∷ code.Fraction ∷ code.Amount ∷ t ∷ form_of ds ty.Duration ∷ [])
-      (form_Date ds)
-      ∙ ap (λ (t : code.Form). code.Whole ∷ code.Fraction ∷ code.Amount ∷ code.Day ∷ t ∷ []) (form_Duration ds)
-
-  compared_forms : map (form_of ds) compared_types
-      ≡ code.Truth ∷ code.Whole ∷ code.Fraction ∷ code.Amount ∷ code.Day ∷ code.Span ∷ []
-  compared_forms =
-      ap (λ (t : code.Form). t ∷ map (form_of ds) ordered_types) (form_Boolean ds)
-      ∙ ap (λ (ts : List code.Form). code.Truth ∷ ts) ordered_forms
-
-abbrev forms_of : Bool → List code.Form
-forms_of true = code.Whole ∷ code.Fraction ∷ code.Amount ∷ code.Day ∷ code.Span ∷ []
-forms_of false = code.Truth ∷ code.Whole ∷ code.Fraction ∷ code.Amount ∷ code.Day ∷ code.Span ∷ []
-
-any_at : (t u : code.Form) (b : Bool) → u ≡ t → (o : Bool) → any_same t (forms_of o) ≡ b → any_same u (forms_of o) ≡ b
-any_at t u b e o h = ap (λ (v : code.Form). any_same v (forms_of o)) e ∙ h
-
-any_is : (d : Senses) (n : ℕ) (f : Form) (o : Bool) → Means d n f → any_same (d.one n) (forms_of o) ≡ is_compared f o
-any_is d n form.Truth true m = any_at code.Truth (d.one n) false m true refl
-any_is d n form.Truth false m = any_at code.Truth (d.one n) true m false refl
-any_is d n form.Whole true m = any_at code.Whole (d.one n) true m true refl
-any_is d n form.Whole false m = any_at code.Whole (d.one n) true m false refl
-any_is d n form.Fraction true m = any_at code.Fraction (d.one n) true m true refl
-any_is d n form.Fraction false m = any_at code.Fraction (d.one n) true m false refl
-any_is d n form.Amount true m = any_at code.Amount (d.one n) true m true refl
-any_is d n form.Amount false m = any_at code.Amount (d.one n) true m false refl
-any_is d n form.Day true m = any_at code.Day (d.one n) true m true refl
-any_is d n form.Day false m = any_at code.Day (d.one n) true m false refl
-any_is d n form.Span true m = any_at code.Span (d.one n) true m true refl
-any_is d n form.Span false m = any_at code.Span (d.one n) true m false refl
-any_is d n (form.Many k) true m = any_at (code.Many (d.one k)) (d.one n) false m true refl
-any_is d n (form.Many k) false m = any_at (code.Many (d.one k)) (d.one n) false m false refl
-any_is d n (form.Fields k) true m = any_at (code.Fields (d.row k)) (d.one n) false m true refl
-any_is d n (form.Fields k) false m = any_at (code.Fields (d.row k)) (d.one n) false m false refl
-any_is d n (form.OneOf k) true m = any_at (code.OneOf k) (d.one n) false m true refl
-any_is d n (form.OneOf k) false m = any_at (code.OneOf k) (d.one n) false m false refl
-any_is d n form.Last true m = any_at (code.OneOf m.1.0) (d.one n) false m.1.1 true refl
-any_is d n form.Last false m = any_at (code.OneOf m.1.0) (d.one n) false m.1.1 false refl
-any_is d n (form.More k l) true m = any_at (code.OneOf m.1.0) (d.one n) false m.1.1 true refl
-any_is d n (form.More k l) false m = any_at (code.OneOf m.1.0) (d.one n) false m.1.1 false refl
 
 module _ (tables : Tables) (forms : Forms) (p : ℕ) where
   -- ---- before one operand

@@ -2,9 +2,11 @@
 use Rattle.std.proofs.Common.{◌≡◌, ◌-◌, ℕ, zero, suc, true, false, List, [], ◌∷◌, Option, None, slice_get, refl}
 use Rattle.std.proofs.Common.{sym, ap, ◌∙◌}
 use Rattle.std.proofs.Common.{drop, subst, arith}
+use Rattle.cat_value.specs.declared.ty.Ty.{Ty}
 use Rattle.cat_value.specs.declared.ty.Ty.TheVariants as ty
 use Rattle.cat_scope.specs.declared.operators.UnaryOp.TheVariants as unary
 use Rattle.cat_scope.specs.declared.operators.BinaryOp.TheVariants as binary
+use Rattle.cat_scope.specs.Signatures.{Signature}
 use Rattle.cat_code.specs.Operations.{Operation, operation, operations}
 use Rattle.cat_verify_shapes.specs.declared.forms.Form.TheVariants as form
 use Rattle.cat_verify_shapes.specs.declared.operators.Operator.{Operator}
@@ -54,6 +56,10 @@ the_table =
     operator.Before form.Whole form.Amount ∷ operator.Before form.Fraction form.Fraction ∷
     operator.Before form.Amount form.Amount ∷ operator.Before form.Day form.Whole ∷
     operator.Before form.Day form.Whole ∷ operator.Before form.Day form.Whole ∷ []
+
+-- the types of an operator between two operands
+abbrev row : Ty → Ty → Ty → Signature
+row left right result = record { left = left; right = right; result = result }
 
 from_40 : AreOf (drop 40 the_table) (drop 40 operations)
 from_40 = (
@@ -117,19 +123,7 @@ from_25 = (
     (
       (unary.Not, refl, refl, refl),
       (
-        (
-          binary.Xor,
-          record {
-            left = ty.Boolean;
-            right = ty.Boolean;
-            result = ty.Boolean;
-          },
-          refl,
-          refl,
-          refl,
-          refl,
-          refl,
-        ),
+        (binary.Xor, row ty.Boolean ty.Boolean ty.Boolean, refl, refl, refl, refl, refl),
         (
           (binary.Less, refl, refl),
           from_30,
@@ -141,47 +135,11 @@ from_25 = (
 
 from_20 : AreOf (drop 20 the_table) (drop 20 operations)
 from_20 = (
+  (binary.AddDurations, row ty.Duration ty.Duration ty.Duration, refl, refl, refl, refl, refl),
   (
-    binary.AddDurations,
-    record {
-      left = ty.Duration;
-      right = ty.Duration;
-      result = ty.Duration;
-    },
-    refl,
-    refl,
-    refl,
-    refl,
-    refl,
-  ),
-  (
+    (binary.SubtractDurations, row ty.Duration ty.Duration ty.Duration, refl, refl, refl, refl, refl),
     (
-      binary.SubtractDurations,
-      record {
-        left = ty.Duration;
-        right = ty.Duration;
-        result = ty.Duration;
-      },
-      refl,
-      refl,
-      refl,
-      refl,
-      refl,
-    ),
-    (
-      (
-        binary.MultiplyDurationByInteger,
-        record {
-          left = ty.Duration;
-          right = ty.Integer;
-          result = ty.Duration;
-        },
-        refl,
-        refl,
-        refl,
-        refl,
-        refl,
-      ),
+      (binary.MultiplyDurationByInteger, row ty.Duration ty.Integer ty.Duration, refl, refl, refl, refl, refl),
       (
         (unary.NegateInteger, refl, refl, refl),
         (
@@ -195,75 +153,15 @@ from_20 = (
 
 from_15 : AreOf (drop 15 the_table) (drop 15 operations)
 from_15 = (
+  (binary.DivideMoneyByInteger, row ty.Money ty.Integer ty.Money, refl, refl, refl, refl, refl),
   (
-    binary.DivideMoneyByInteger,
-    record {
-      left = ty.Money;
-      right = ty.Integer;
-      result = ty.Money;
-    },
-    refl,
-    refl,
-    refl,
-    refl,
-    refl,
-  ),
-  (
+    (binary.DivideMoney, row ty.Money ty.Money ty.Decimal, refl, refl, refl, refl, refl),
     (
-      binary.DivideMoney,
-      record {
-        left = ty.Money;
-        right = ty.Money;
-        result = ty.Decimal;
-      },
-      refl,
-      refl,
-      refl,
-      refl,
-      refl,
-    ),
-    (
+      (binary.AddDurationToDate, row ty.Date ty.Duration ty.Date, refl, refl, refl, refl, refl),
       (
-        binary.AddDurationToDate,
-        record {
-          left = ty.Date;
-          right = ty.Duration;
-          result = ty.Date;
-        },
-        refl,
-        refl,
-        refl,
-        refl,
-        refl,
-      ),
-      (
+        (binary.SubtractDurationFromDate, row ty.Date ty.Duration ty.Date, refl, refl, refl, refl, refl),
         (
-          binary.SubtractDurationFromDate,
-          record {
-            left = ty.Date;
-            right = ty.Duration;
-            result = ty.Date;
-          },
-          refl,
-          refl,
-          refl,
-          refl,
-          refl,
-        ),
-        (
-          (
-            binary.SubtractDates,
-            record {
-              left = ty.Date;
-              right = ty.Date;
-              result = ty.Duration;
-            },
-            refl,
-            refl,
-            refl,
-            refl,
-            refl,
-          ),
+          (binary.SubtractDates, row ty.Date ty.Date ty.Duration, refl, refl, refl, refl, refl),
           from_20,
         ),
       ),
@@ -273,75 +171,15 @@ from_15 = (
 
 from_10 : AreOf (drop 10 the_table) (drop 10 operations)
 from_10 = (
+  (binary.MultiplyMoneyByDecimal, row ty.Money ty.Decimal ty.Money, refl, refl, refl, refl, refl),
   (
-    binary.MultiplyMoneyByDecimal,
-    record {
-      left = ty.Money;
-      right = ty.Decimal;
-      result = ty.Money;
-    },
-    refl,
-    refl,
-    refl,
-    refl,
-    refl,
-  ),
-  (
+    (binary.MultiplyDecimalByMoney, row ty.Decimal ty.Money ty.Money, refl, refl, refl, refl, refl),
     (
-      binary.MultiplyDecimalByMoney,
-      record {
-        left = ty.Decimal;
-        right = ty.Money;
-        result = ty.Money;
-      },
-      refl,
-      refl,
-      refl,
-      refl,
-      refl,
-    ),
-    (
+      (binary.MultiplyMoneyByInteger, row ty.Money ty.Integer ty.Money, refl, refl, refl, refl, refl),
       (
-        binary.MultiplyMoneyByInteger,
-        record {
-          left = ty.Money;
-          right = ty.Integer;
-          result = ty.Money;
-        },
-        refl,
-        refl,
-        refl,
-        refl,
-        refl,
-      ),
-      (
+        (binary.MultiplyIntegerByMoney, row ty.Integer ty.Money ty.Money, refl, refl, refl, refl, refl),
         (
-          binary.MultiplyIntegerByMoney,
-          record {
-            left = ty.Integer;
-            right = ty.Money;
-            result = ty.Money;
-          },
-          refl,
-          refl,
-          refl,
-          refl,
-          refl,
-        ),
-        (
-          (
-            binary.DivideMoneyByDecimal,
-            record {
-              left = ty.Money;
-              right = ty.Decimal;
-              result = ty.Money;
-            },
-            refl,
-            refl,
-            refl,
-            refl,
-            refl,
-          ),
+          (binary.DivideMoneyByDecimal, row ty.Money ty.Decimal ty.Money, refl, refl, refl, refl, refl),
           from_15,
         ),
       ),
@@ -351,75 +189,15 @@ from_10 = (
 
 from_5 : AreOf (drop 5 the_table) (drop 5 operations)
 from_5 = (
+  (binary.SubtractDecimals, row ty.Decimal ty.Decimal ty.Decimal, refl, refl, refl, refl, refl),
   (
-    binary.SubtractDecimals,
-    record {
-      left = ty.Decimal;
-      right = ty.Decimal;
-      result = ty.Decimal;
-    },
-    refl,
-    refl,
-    refl,
-    refl,
-    refl,
-  ),
-  (
+    (binary.MultiplyDecimals, row ty.Decimal ty.Decimal ty.Decimal, refl, refl, refl, refl, refl),
     (
-      binary.MultiplyDecimals,
-      record {
-        left = ty.Decimal;
-        right = ty.Decimal;
-        result = ty.Decimal;
-      },
-      refl,
-      refl,
-      refl,
-      refl,
-      refl,
-    ),
-    (
+      (binary.DivideDecimals, row ty.Decimal ty.Decimal ty.Decimal, refl, refl, refl, refl, refl),
       (
-        binary.DivideDecimals,
-        record {
-          left = ty.Decimal;
-          right = ty.Decimal;
-          result = ty.Decimal;
-        },
-        refl,
-        refl,
-        refl,
-        refl,
-        refl,
-      ),
-      (
+        (binary.AddMoney, row ty.Money ty.Money ty.Money, refl, refl, refl, refl, refl),
         (
-          binary.AddMoney,
-          record {
-            left = ty.Money;
-            right = ty.Money;
-            result = ty.Money;
-          },
-          refl,
-          refl,
-          refl,
-          refl,
-          refl,
-        ),
-        (
-          (
-            binary.SubtractMoney,
-            record {
-              left = ty.Money;
-              right = ty.Money;
-              result = ty.Money;
-            },
-            refl,
-            refl,
-            refl,
-            refl,
-            refl,
-          ),
+          (binary.SubtractMoney, row ty.Money ty.Money ty.Money, refl, refl, refl, refl, refl),
           from_10,
         ),
       ),
@@ -429,75 +207,15 @@ from_5 = (
 
 the_operations : AreOf the_table operations
 the_operations = (
+  (binary.AddIntegers, row ty.Integer ty.Integer ty.Integer, refl, refl, refl, refl, refl),
   (
-    binary.AddIntegers,
-    record {
-      left = ty.Integer;
-      right = ty.Integer;
-      result = ty.Integer;
-    },
-    refl,
-    refl,
-    refl,
-    refl,
-    refl,
-  ),
-  (
+    (binary.SubtractIntegers, row ty.Integer ty.Integer ty.Integer, refl, refl, refl, refl, refl),
     (
-      binary.SubtractIntegers,
-      record {
-        left = ty.Integer;
-        right = ty.Integer;
-        result = ty.Integer;
-      },
-      refl,
-      refl,
-      refl,
-      refl,
-      refl,
-    ),
-    (
+      (binary.MultiplyIntegers, row ty.Integer ty.Integer ty.Integer, refl, refl, refl, refl, refl),
       (
-        binary.MultiplyIntegers,
-        record {
-          left = ty.Integer;
-          right = ty.Integer;
-          result = ty.Integer;
-        },
-        refl,
-        refl,
-        refl,
-        refl,
-        refl,
-      ),
-      (
+        (binary.DivideIntegers, row ty.Integer ty.Integer ty.Decimal, refl, refl, refl, refl, refl),
         (
-          binary.DivideIntegers,
-          record {
-            left = ty.Integer;
-            right = ty.Integer;
-            result = ty.Decimal;
-          },
-          refl,
-          refl,
-          refl,
-          refl,
-          refl,
-        ),
-        (
-          (
-            binary.AddDecimals,
-            record {
-              left = ty.Decimal;
-              right = ty.Decimal;
-              result = ty.Decimal;
-            },
-            refl,
-            refl,
-            refl,
-            refl,
-            refl,
-          ),
+          (binary.AddDecimals, row ty.Decimal ty.Decimal ty.Decimal, refl, refl, refl, refl, refl),
           from_5,
         ),
       ),
