@@ -31,7 +31,7 @@ use Rattle.cat_verify.specs.inside.CallNumbers.{AreMarked, IsInOrder, RoundCause
 use Rattle.cat_verify.specs.inside.OwnerNumbers.{is_shared, NoneShared, OneShared, placed_by, placed_from}
 use Rattle.cat_verify.specs.inside.OwnerNumbers.{with_places}
 use Rattle.cat_verify.specs.inside.Orderly.{IsOrderly, AreCallsHome, AreApart, OwnersCause}
-use Rattle.cat_verify.proofs.OneOf.{in_back, either_of, in_map, of_map, at_of_in, within_of}
+use Rattle.cat_verify.proofs.OneOf.{in_back, either_of, in_map, of_map, at_of_in, within_of, at_within, in_at}
 use Rattle.cat_verify.proofs.StartLemmas as start
 use Rattle.cat_verify.proofs.BelongLemmas.{owner_of_stamp, begins_of}
 use Rattle.cat_verify.proofs.MarkedLemmas as marked
@@ -173,10 +173,21 @@ module _ (tables : Tables) (code : List Instr) (functions : List FunctionPlace) 
         entry = from.1;
         begins = subst (λ (o : Owner). Begins tables o from.1) (sym is) from.2;
         rising = rising 0 marks n;
+        inside = inside;
         come = all_of (MayComeTo tables code (owner n)) (numbers_of n (placed_from 0 marks)) come;
         all = stands;
       }
     where
+      inside : All (λ p. p < length code) (numbers_of n (placed_from 0 marks))
+      inside k d within =
+          let ps = numbers_of n (placed_from 0 marks) in
+          let at = at_within ps k within in
+          let from = of_placed 0 marks n at.0 (in_at ps k at.0 at.1) in
+          let below : from.0 < length marks = within_of marks from.0 (One n) from.2 in
+          let place : at.0 ≡ 0 + from.0 = from.1 in
+          let is : get_or ps k d ≡ at.0 = get_or_from_slice_get ps k at.0 d at.1 in
+          omega (arith, below, place, is, are.one_each)
+
       come : (p : ℕ) → IsOneOf p (numbers_of n (placed_from 0 marks)) → MayComeTo tables code (owner n) p
       come p one =
           let at = of_placed 0 marks n p one in

@@ -1,7 +1,7 @@
 -- What is known behind a place that is looked at, and why no shapes exist where it can't be.
-use Rattle.std.proofs.Common.{◌≡◌, ◌⊎◌, ◌<◌, ◌≤◌, inl, inr, ℕ, zero, suc, ◌+◌, List, [], ◌∷◌, ◌++◌}
+use Rattle.std.proofs.Common.{◌≡◌, ◌⊎◌, ◌<◌, inl, inr, ℕ, zero, suc, ◌+◌, List, [], ◌∷◌, ◌++◌}
 use Rattle.std.proofs.Common.{length, drop, Some, None}
-use Rattle.std.proofs.Common.{slice_get, slice_set, refl, sym, ap, ◌∙◌, subst, arith, add-one}
+use Rattle.std.proofs.Common.{slice_get, slice_set, refl, sym, ap, ◌∙◌, subst, add-one}
 use Rattle.std.proofs.lemmas.Option.{slice_get_within}
 use Rattle.cat_scope.specs.Names.{IsOneOf}
 use Rattle.cat_code.specs.declared.instr.Instr.{Instr}
@@ -97,49 +97,6 @@ module _ (tables : Tables) (code : List Instr) where
       met_lower before more lower e _ (met k one e below is at)
 
   -- ---- places that are passed
-
-  skip_known : (found : List Spot) (place : ℕ) (left : List ℕ) (d : Senses) (shapes : Shapes) → length code ≤ place
-      → IsKnown tables code d found (length code) (place ∷ left) shapes
-      → IsKnown tables code d found (length code) left shapes
-  skip_known found place left d shapes past known = record {
-    long = known.long;
-    so_far = known.so_far;
-    turns = known.turns;
-    bound = known.bound;
-    run = known.run;
-    passed = known.passed;
-    waiting = λ p s is. behind p s is (known.waiting p s is);
-    fresh = λ p among look. known.fresh p (inr among) look;
-    done = λ owner q of less out. known.done owner q of less (neither q less out);
-  }
-    where
-      outside : (q : ℕ) → q ≡ place → q < length code → ⊥
-      outside q e less = absurd (omega (arith, e, less, past))
-
-      behind : (p : ℕ) (s : Shape) → slice_get found p ≡ Some (spot.Open s) → IsOneOf p (place ∷ left) → IsOneOf p left
-      behind p s is (inr h) = h
-      behind p s is (inl e) =
-          absurd (outside p e (subst (λ (k : ℕ). p < k) known.long (slice_get_within found p (spot.Open s) is)))
-
-      neither : (q : ℕ) → q < length code → (IsOneOf q left → ⊥) → IsOneOf q (place ∷ left) → ⊥
-      neither q less out (inl e) = outside q e less
-      neither q less out (inr h) = out h
-
-  pub skipped_state : (forms : Forms) (found : List Spot) (n place : ℕ) (left : List ℕ) → length code ≤ place
-      → IsState tables code forms found n (place ∷ left) → IsState tables code forms found n left
-  skipped_state forms found n place left past state = record {
-    table = state.table;
-    known = λ d h. let was = state.known d h in (was.0, skip_known found place left d was.0 past was.1, was.2);
-  }
-
-  -- the same of a place behind all spots, of which there are as many as instructions
-  pub skipped_spot : (forms : Forms) (found : List Spot) (n place : ℕ) (left : List ℕ) → length found ≤ place
-      → IsState tables code forms found n (place ∷ left) → IsState tables code forms found n left
-  skipped_spot forms found n place left past state = record {
-    table = state.table;
-    known = λ d h. let was = state.known d h in
-        (was.0, skip_known found place left d was.0 (subst (λ (k : ℕ). k ≤ place) was.1.long past) was.1, was.2);
-  }
 
   unmet_passed : (d : Senses) (found : List Spot) (place : ℕ) (left : List ℕ) (shapes : Shapes)
       → IsKnown tables code d found (length code) (place ∷ left) shapes → AreInOrder tables code (place ∷ left)

@@ -1,5 +1,5 @@
 -- The places of owners, callers first, are in an order in which each stands in front of those to which it leads.
-use Rattle.std.proofs.Common.{◌≡◌, ◌⊎◌, ◌<◌, inl, inr, ℕ, List, [], ◌∷◌, ◌++◌, length}
+use Rattle.std.proofs.Common.{◌≡◌, ◌⊎◌, ◌<◌, inl, inr, ℕ, zero, suc, All, List, [], ◌∷◌, ◌++◌, length}
 use Rattle.std.proofs.Common.{refl, sym}
 use Rattle.std.proofs.Common.{subst, arith}
 use Rattle.cat_scope.specs.Names.{AllHave, IsOneOf}
@@ -150,6 +150,17 @@ module _ (tables : Tables) (code : List Instr) where
   pub places_in_order : (owners : List OwnerPlaces) → AreOwners tables code owners
       → AreInOrder tables code (all_places owners)
   places_in_order owners are = in_order are.apart owners are.places are.first
+
+  -- the places of owners are those of instructions
+  all_inside : (owners : List OwnerPlaces) → HavePlaces owners
+      → All (λ one. All (λ p. p < length code) one.places) owners
+  all_inside [] have k d within = absurd (omega (arith, within))
+  all_inside (one ∷ owners) have zero d within = have.0.inside
+  all_inside (one ∷ owners) have (suc k) d within = all_inside owners have.1 k d (omega (arith, within))
+
+  pub places_inside : (owners : List OwnerPlaces) → AreOwners tables code owners
+      → All (λ one. All (λ p. p < length code) one.places) owners
+  places_inside owners are = all_inside owners are.places
 
   -- an owner to which a place belongs begins somewhere
   pub begins_somewhere : {owner : shapes.Owner} {q : ℕ} → Belongs tables code owner q

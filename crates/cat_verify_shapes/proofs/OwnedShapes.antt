@@ -111,9 +111,9 @@ module _ (tables : Tables) (code : List Instr) (shapes : Shapes) (fit : IsShaped
 
   pub runs_own : (owner : Owner) → MayRun tables code owner → (p : ℕ) → Begins tables owner p → HasOwn owner p
   runs_own owner (scope {n} at) p begin = scope_own n p begin
-  runs_own owner (called {a} {b} {p} i runs belongs at is) q begin =
-      let own = belongs_own a (runs_own a runs) p belongs in
-      entered owner i p own.shape (fine_there tables code shapes fit p i own.shape at own.is) is q begin
+  runs_own owner (called {a} {b} {place} i runs belongs at is) q begin =
+      let own = belongs_own a (runs_own a runs) place belongs in
+      entered owner i place own.shape (fine_there tables code shapes fit place i own.shape at own.is) is q begin
 
   -- each place to which a run may come
   pub comes_own : (owner : Owner) (p : ℕ) → MayComeTo tables code owner p → HasOwn owner p

@@ -54,6 +54,14 @@ module _ (tables : Tables) (code : List Instr) where
       get_as_long fit found q (Some met.shape)
       (fits_long tables code code fit fit 0 shaped.fine ∙ sym known.long) met.is
 
+  -- there are as many spots as instructions
+  pub state_long : (forms : Forms) (found : List Spot) (n : ℕ) (left : List ℕ) → IsState tables code forms found n left
+      → length found ≡ length code
+  state_long forms found n left state = by_table state.table
+    where
+      by_table : IsTable tables.decls forms → length found ≡ length code
+      by_table (ks, table) = (state.known (senses_of ks) (senses_exist tables.decls forms ks table)).1.long
+
   -- ---- the beginning
 
   first_known : (owners : List OwnerPlaces) → AreOwners tables code owners → (d : Senses)

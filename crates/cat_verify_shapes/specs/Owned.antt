@@ -1,5 +1,5 @@
 -- Owners with their instructions, each owner in front of those that it calls.
-use Rattle.std.specs.Prelude.{◌≡◌, ◌<◌, ℕ, List, [], ◌∷◌, map, length, Some, slice_get}
+use Rattle.std.specs.Prelude.{◌≡◌, ◌<◌, ℕ, List, [], ◌∷◌, map, length, Some, slice_get, All}
 use Rattle.cat_scope.specs.Names.{IsOneOf, AllHave}
 use Rattle.cat_code.specs.declared.instr.Instr.{Instr}
 use Rattle.cat_code.specs.declared.instr.Instr.TheVariants as instr
@@ -18,11 +18,12 @@ abbrev pub IsRising : List ℕ → Type 0
 IsRising [] = Unit {0}
 IsRising (n ∷ ns) = AllHave (λ m. n < m) ns × IsRising ns
 
--- the places in the code of an owner to which a run may come, in their order
+-- the instructions in the code of an owner to which a run may come, by their places in order
 pub record HasPlaces (tables : Tables) (code : List Instr) (owner : shapes.Owner) (places : List ℕ) : Type 0 where
   pub entry : ℕ
   pub begins : Begins tables owner entry
   pub rising : IsRising places
+  pub inside : All (λ p. p < length code) places
   pub come : AllHave (MayComeTo tables code owner) places
   pub all : (p : ℕ) → p < length code → MayComeTo tables code owner p → IsOneOf p places
 

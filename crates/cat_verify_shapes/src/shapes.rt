@@ -1,5 +1,5 @@
 // One pass over the code that finds the greatest shapes, callers before what they call.
-ghost use Rattle.std.specs.Prelude.{◌≡◌, ℕ, List as Listed, [], ◌∷◌, ◌++◌, length, map, IfOk, IfErr};
+ghost use Rattle.std.specs.Prelude.{◌≡◌, ◌<◌, ℕ, List as Listed, [], ◌∷◌, ◌++◌, length, map, All, IfOk, IfErr, OnOk};
 ghost use Rattle.cat_value.specs.Inputs.{must_be_given};
 ghost use Rattle.cat_order.specs.Order.{IsOrder};
 ghost use Rattle.cat_value.specs.Dependencies.{type_dependencies};
@@ -85,16 +85,13 @@ fn look_at(
 ) -> Result<(), Stuck>
     requires functions { functions.now ≡ map numbered (function_places tables.now.decls) }
     requires settled { IsSettled tables.now code.now }
-    ensures { (left : Listed ℕ) → AreInOrder tables.now code.now (place ∷ left)
+    requires inside { place < length code.now }
+    requires long { length found.old.items ≡ length code.now }
+    ensures looked { (left : Listed ℕ) → AreInOrder tables.now code.now (place ∷ left)
         → IsState tables.now code.now forms.old found.old.items (length tables.now.decls.scopes) (place ∷ left)
         → LooksAt tables.now code.now forms.new found.new.items left place result }
+    ensures long { OnOk result (length found.new.items ≡ length code.now) }
 {
-    if place >= code.len() {
-        return Ok(());
-    }
-    if place >= found.len() {
-        return Ok(());
-    }
     let instr = code[place];
     let alloc = forms.alloc;
     let Some(shape) = open(alloc, found, place, instr)? else {
@@ -116,9 +113,12 @@ fn look_at_all(
 ) -> Result<(), ShapeRefusal>
     requires functions { functions.now ≡ map numbered (function_places tables.now.decls) }
     requires settled { IsSettled tables.now code.now }
-    ensures { (left : Listed ℕ) → AreInOrder tables.now code.now (places.now ++ left)
+    requires inside { All (λ place. place < length code.now) places.now }
+    requires long { length found.old.items ≡ length code.now }
+    ensures looked { (left : Listed ℕ) → AreInOrder tables.now code.now (places.now ++ left)
         → IsState tables.now code.now forms.old found.old.items (length tables.now.decls.scopes) (places.now ++ left)
         → LooksAtAll tables.now code.now forms.new found.new.items (length tables.now.decls.scopes) left result }
+    ensures long { OnOk result (length found.new.items ≡ length code.now) }
 {
     for &place in places {
         let place = place as usize;
@@ -140,6 +140,7 @@ fn look_at_owners(
 ) -> Result<(), ShapeRefusal>
     requires functions { functions.now ≡ map numbered (function_places tables.now.decls) }
     requires settled { IsSettled tables.now code.now }
+    requires inside { All (λ one. All (λ place. place < length code.now) one.places) owners.now }
     requires order { AreInOrder tables.now code.now (all_places owners.now) }
     requires known { IsState tables.now code.now forms.old found.old.items (length tables.now.decls.scopes)
         (all_places owners.now) }

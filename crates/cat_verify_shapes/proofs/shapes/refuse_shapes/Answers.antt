@@ -1,5 +1,5 @@
 use Rattle.std.proofs.lemmas.Result.{err_from_is_err_and}
-use Rattle.cat_verify_shapes.proofs.OrderLemmas.{places_in_order}
+use Rattle.cat_verify_shapes.proofs.OrderLemmas.{places_in_order, places_inside}
 use Rattle.cat_verify_shapes.proofs.StateSteps.{first_state, ends}
 use Rattle.cat_verify_shapes.proofs.shapes.refuse_shapes.Goals as goal
 
@@ -7,6 +7,10 @@ pub enter_scopes-requires-clause-known : goal.enter_scopes-requires-clause-known
 enter_scopes-requires-clause-known c =
     first_state c.args.tables.now c.args.code.now c.in_ok-forms.forms c.in_ok-found.found.items c.args.owners.now
     c.in_ok-forms.ensures c.in_ok-found.ensures c.requires.owners
+
+pub look_at_owners-requires-clause-inside : goal.look_at_owners-requires-clause-inside
+look_at_owners-requires-clause-inside c =
+    places_inside c.args.tables.now c.args.code.now c.args.owners.now c.requires.owners
 
 pub look_at_owners-requires-clause-order : goal.look_at_owners-requires-clause-order
 look_at_owners-requires-clause-order c =
