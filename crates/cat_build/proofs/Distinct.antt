@@ -59,7 +59,7 @@ distinct (t ∷ ts) h = rw (not_among ts t h.0) (distinct ts h.1)
 
 -- ---- names of parts, in the order in which they are written
 
-named_alike : {A B : Type 0} (f : A → Found B) (written : A → Name) (declared : B → List ℕ)
+pub named_alike : {A B : Type 0} (f : A → Found B) (written : A → Name) (declared : B → List ℕ)
     → ((x : A) (y : B) → f x ≡ Ok y → declared y ≡ (written x).text) → (xs : List A) (ys : List B)
     → each_found f xs ≡ Ok ys → map declared ys ≡ texts (map written xs)
 named_alike f written declared one [] ys h = let is : [] ≡ ys = cc h in ap (map declared) (sym is)
@@ -70,13 +70,14 @@ named_alike f written declared one (x ∷ xs) ys h =
     ∙ ap₂ (λ (t : List ℕ) (ts : List (List ℕ)). t ∷ ts) (one x found.0 found.2)
     (named_alike f written declared one xs found.1 found.3)
 
-field_name : (names : TypeNames) (f : FieldItem) (g : Field) → field_declared names f ≡ Ok g → g.name ≡ f.name.text
+pub field_name : (names : TypeNames) (f : FieldItem) (g : Field) → field_declared names f ≡ Ok g
+    → g.name ≡ f.name.text
 field_name names f g h =
     let found = then_ok (type_found names f.ty) _ g h in
     let is : record { name = f.name.text; ty = found.0 } ≡ g = cc found.2 in
     ap (λ (x : Field). x.name) (sym is)
 
-case_name : (names : TypeNames) (c : CaseItem) (d : Case) → case_declared names c ≡ Ok d → d.name ≡ c.name.text
+pub case_name : (names : TypeNames) (c : CaseItem) (d : Case) → case_declared names c ≡ Ok d → d.name ≡ c.name.text
 case_name names c d h =
     let found = then_ok (content_declared names c.content) _ d h in
     let is : record { name = c.name.text; content = found.0 } ≡ d = cc found.2 in

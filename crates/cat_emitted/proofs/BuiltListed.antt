@@ -12,13 +12,12 @@ use Rattle.cat_lower.proofs.Exported.{tables_fit}
 use Rattle.cat_build.specs.declared.Built.{Built}
 use Rattle.cat_build.specs.Built.{IsBuiltOf}
 use Rattle.cat_image.specs.Listed.{is_line}
+use Rattle.cat_verify_tables.proofs.Exported.{tests_have, each_has}
 use Rattle.cat_emitted.specs.Spelled.{AreSpelledDecls}
 use Rattle.cat_emitted.specs.Emitted.{AllAt, IsSmallCode, IsWellListed}
-use Rattle.cat_emitted.proofs.ConstantFacts.{all_tests}
 use Rattle.cat_emitted.proofs.DeclaredNames.{declared_spelled}
 use Rattle.cat_emitted.proofs.FileNames.{files_lines}
 use Rattle.cat_emitted.proofs.FittedTables.{IsThere, tables_of_files}
-use Rattle.cat_emitted.proofs.ListFacts.{each_of}
 use Rattle.cat_emitted.proofs.ProgramPositions.{source_fits}
 use Rattle.cat_emitted.proofs.WellListed.{AreValidTables, well_listed, valid_tables}
 
@@ -48,7 +47,7 @@ module _ (contents : Contents) (main : List ℕ) (source : Source) (built : Buil
   pub there : AllAt (IsThere source.files) built.code.tables
   there = let tables = built.code.tables in record {
     items = fitted.items;
-    targets = each_of (TargetFits IsIn tables.decls) (λ (t : TargetEntry). IsThere source.files t.pos)
+    targets = each_has (TargetFits IsIn tables.decls) (λ (t : TargetEntry). IsThere source.files t.pos)
         (λ t fits. fits.place) tables.targets fitted.targets;
     definitions = fitted.definitions;
     positions = fitted.positions;
@@ -71,7 +70,7 @@ module _ (contents : Contents) (main : List ℕ) (source : Source) (built : Buil
       let entries = valid.one_entry_each in
       let same = ap (λ (ds : Decls). length ds.scopes) (whole.lowered.code_is.decls ∙ whole.lowered.decls) in
       entered count tables.scopes tables.functions (omega (arith, some, entries, same))
-      (all_tests (λ place. nat_lt place count) (entries_of tables) valid.entries)
+      (tests_have (λ place. nat_lt place count) (entries_of tables) valid.entries)
 
   pub built_listed : IsTrue (is_line main) → 0 < length built.program.decls.scopes → IsSmallCode built.code
       → IsWellListed source.files built.code.tables built.code.instructions
@@ -82,6 +81,6 @@ module _ (contents : Contents) (main : List ℕ) (source : Source) (built : Buil
         decls = spelled_decls;
         named = files_lines contents main source line is;
         placed = tables_of_files source.files tables there small.positions;
-        targets = each_of (TargetFits IsIn tables.decls) (λ (t : TargetEntry). IsVariableTarget tables.decls t.target)
+        targets = each_has (TargetFits IsIn tables.decls) (λ (t : TargetEntry). IsVariableTarget tables.decls t.target)
             (λ t fits. fits.variable) tables.targets fitted.targets;
       }) (record { some = some_instruction some; few = small.few; numbers = small.numbers })

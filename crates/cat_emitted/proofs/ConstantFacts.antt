@@ -1,7 +1,6 @@
 -- Constants that are read back are right, and are told by their words.
-use Rattle.std.proofs.Common.{◌≤◌, Bool, IsTrue, nat_le, List, [], ◌∷◌, map, inl, inr, refl}
+use Rattle.std.proofs.Common.{◌≤◌, IsTrue, nat_le, List, [], ◌∷◌, map, inl, inr, refl}
 use Rattle.std.proofs.Common.{◌∙◌, arith}
-use Rattle.std.specs.List.{list_all}
 use Rattle.std.proofs.lemmas.Bool.{and_parts}
 use Rattle.std.proofs.lemmas.Bool.Decides.{nat_tests}
 use Rattle.cat_scope.specs.Names.{AllHave}
@@ -20,12 +19,6 @@ use Rattle.cat_verify_tables.specs.WrongTables.{IsWrongConstant}
 use Rattle.cat_emitted.specs.Spelled.{AreSpelledDecls}
 use Rattle.cat_emitted.proofs.Readings.{IsReadBack, AreReadAlike}
 use Rattle.cat_emitted.proofs.PartFacts.{right_type}
-
-pub all_tests : {A : Type 0} (test : A → Bool) (xs : List A) → IsTrue (list_all test xs)
-    → AllHave (λ x. IsTrue (test x)) xs
-all_tests test [] h = tt
-all_tests test (x ∷ xs) h =
-    let parts = and_parts (test x) (list_all test xs) h in (parts.0, all_tests test xs parts.1)
 
 module _ (ds : Decls) (c : Constant) (sound : IsTrue (constant_is_sound ds c)) where
   type_sound : IsTrue (is_sound ds.structures ds.enumerations c.ty)

@@ -1,14 +1,11 @@
 -- What a tree without faults of names declares has names that are words, none twice, and keeps the counts.
 use Rattle.std.proofs.Common.{◌≡◌, ◌≤◌, ℕ, true, List, [], ◌∷◌, ◌++◌, map, length, Option}
-use Rattle.std.proofs.Common.{Some}
-use Rattle.std.proofs.Common.{None, Ok, refl, sym, ap, ap₂, ◌∙◌, subst, arith}
+use Rattle.std.proofs.Common.{Some, None, Ok, refl, sym, subst, arith}
 use Rattle.std.specs.Prelude.{flat_map, is_none}
 use Rattle.cat_pos.specs.declared.pos.Piece.{Piece}
 use Rattle.cat_value.specs.declared.ty.Ty.{Ty}
 use Rattle.cat_value.specs.declared.ty.Ty.TheVariants as flat
-use Rattle.cat_value.specs.declared.declaration.Case.{Case}
 use Rattle.cat_value.specs.declared.declaration.Enumeration.{Enumeration}
-use Rattle.cat_value.specs.declared.declaration.Field.{Field}
 use Rattle.cat_value.specs.declared.declaration.ItemDecl.{ItemDecl}
 use Rattle.cat_value.specs.declared.declaration.Kind.TheVariants.{Called}
 use Rattle.cat_value.specs.declared.declaration.Scope.{Scope}
@@ -34,10 +31,10 @@ use Rattle.cat_names.specs.declared.fault.Fault.{Fault}
 use Rattle.cat_names.specs.declared.fault.Fault.TheVariants.{NameUnknown}
 use Rattle.cat_names.specs.Accepted.{IsNamed, parts_of}
 use Rattle.cat_names.specs.DeclarationFaults.{variable_name, param_faults, past}
-use Rattle.cat_names.specs.Declarations.{case_declared, content_declared, enumeration_declared, variable_type}
+use Rattle.cat_names.specs.Declarations.{case_declared, enumeration_declared, variable_type}
 use Rattle.cat_names.specs.Declarations.{field_declared, item_declared, scope_declared, structure_declared}
 use Rattle.cat_names.specs.Declarations.{variable_item, called_item_of, kind_declared}
-use Rattle.cat_names.specs.Found.{Found, each_found, or_fault}
+use Rattle.cat_names.specs.Found.{each_found, or_fault}
 use Rattle.cat_names.specs.Limits.{most_items, most_parameters}
 use Rattle.cat_names.specs.Lookup.{TypeNames, type_found, first_named}
 use Rattle.cat_names.specs.NameFaults.{item_faults}
@@ -46,6 +43,7 @@ use Rattle.cat_names.specs.Written.{enumerations_in, scope_names_in, scopes_in, 
 use Rattle.cat_names.specs.Written.{positions}
 use Rattle.cat_names.proofs.Exported.{both_ok, then_ok, item_name, declared_parts, each_on, as_many, fine_items}
 use Rattle.cat_names.proofs.Exported.{names_apart, none_past, positions_counted}
+use Rattle.cat_build.proofs.Exported.{named_alike, field_name, case_name}
 use Rattle.cat_emitted.specs.Spelled.{IsTypeWord, IsPartWord, AreApart, IsSpelledStructure, IsSpelledEnumeration}
 use Rattle.cat_emitted.specs.Spelled.{IsSpelledItem, IsSpelledScope, AreSpelledDecls}
 use Rattle.cat_emitted.proofs.ListFacts.{apart_texts}
@@ -62,31 +60,6 @@ none_behind (x ∷ xs) ys h = cc h
 none_each : {A : Type 0} (f : A → List Fault) (xs : List A) → flat_map f xs ≡ [] → AllHave (λ x. f x ≡ []) xs
 none_each f [] h = tt
 none_each f (x ∷ xs) h = (none_in (f x) (flat_map f xs) h, none_each f xs (none_behind (f x) (flat_map f xs) h))
-
--- ---- names of parts, in the order in which they are written
-
-named_alike : {A B : Type 0} (f : A → Found B) (written : A → Name) (declared : B → List ℕ)
-    → ((x : A) (y : B) → f x ≡ Ok y → declared y ≡ (written x).text) → (xs : List A) (ys : List B)
-    → each_found f xs ≡ Ok ys → map declared ys ≡ texts (map written xs)
-named_alike f written declared one [] ys h = let is : [] ≡ ys = cc h in ap (map declared) (sym is)
-named_alike f written declared one (x ∷ xs) ys h =
-    let found = both_ok (f x) (each_found f xs) _ ys h in
-    let is : found.0 ∷ found.1 ≡ ys = cc found.4 in
-    ap (map declared) (sym is)
-    ∙ ap₂ (λ (t : List ℕ) (ts : List (List ℕ)). t ∷ ts) (one x found.0 found.2)
-    (named_alike f written declared one xs found.1 found.3)
-
-field_name : (names : TypeNames) (f : FieldItem) (g : Field) → field_declared names f ≡ Ok g → g.name ≡ f.name.text
-field_name names f g h =
-    let found = then_ok (type_found names f.ty) _ g h in
-    let is : record { name = f.name.text; ty = found.0 } ≡ g = cc found.2 in
-    ap (λ (x : Field). x.name) (sym is)
-
-case_name : (names : TypeNames) (c : CaseItem) (d : Case) → case_declared names c ≡ Ok d → d.name ≡ c.name.text
-case_name names c d h =
-    let found = then_ok (content_declared names c.content) _ d h in
-    let is : record { name = c.name.text; content = found.0 } ≡ d = cc found.2 in
-    ap (λ (x : Case). x.name) (sym is)
 
 -- ---- what is written
 

@@ -1,5 +1,5 @@
 -- Names of types, types without parts and lists begin with other letters.
-use Rattle.std.proofs.Common.{◌≡◌, ◌<◌, ◌≤◌, ℕ, [], ◌∷◌, ◌++◌, inl, inr, ap, ◌∙◌, arith}
+use Rattle.std.proofs.Common.{◌≡◌, ◌<◌, ◌≤◌, [], ◌++◌, inl, inr, ap, ◌∙◌, arith}
 use Rattle.std.specs.Prelude.{codes}
 use Rattle.std.specs.Char.{is_ascii_uppercase}
 use Rattle.std.specs.Str.{encode_utf8_all}
@@ -9,10 +9,7 @@ use Rattle.cat_lex.specs.Forms.{IsWord}
 use Rattle.cat_scope.specs.Names.{IsOneOf}
 use Rattle.cat_image.specs.Words.{Text}
 use Rattle.cat_verify_tables.specs.TypeWords.{flat_types}
-
-abbrev pub first_of : Text → ℕ
-first_of [] = 0
-first_of (b ∷ bs) = b
+use Rattle.cat_verify_tables.proofs.Exported.{first_of}
 
 -- the name of a type begins with a capital
 pub first_capital : (word : Text) → IsWord is_ascii_uppercase word → first_of word ≤ 90
@@ -53,19 +50,3 @@ first_small word (inr (inr (inr (inr (inr (inr none)))))) = elim none [ ]
 pub flat_no_name : (word : Text) → IsOneOf word flat_types → IsWord is_ascii_uppercase word → ⊥
 flat_no_name word one w =
     let capital = first_capital word w in let small = first_small word one in omega (arith, capital, small)
-
--- no list
-pub flat_no_list : (word rest : Text) → IsOneOf word flat_types → word ≡ codes "list of " ++ rest → ⊥
-flat_no_list word rest (inl is) same =
-    let e = ap first_of is in let f = ap first_of same in omega (arith, e, f)
-flat_no_list word rest (inr (inl is)) same =
-    let e = ap first_of is in let f = ap first_of same in omega (arith, e, f)
-flat_no_list word rest (inr (inr (inl is))) same =
-    let e = ap first_of is in let f = ap first_of same in omega (arith, e, f)
-flat_no_list word rest (inr (inr (inr (inl is)))) same =
-    let e = ap first_of is in let f = ap first_of same in omega (arith, e, f)
-flat_no_list word rest (inr (inr (inr (inr (inl is))))) same =
-    let e = ap first_of is in let f = ap first_of same in omega (arith, e, f)
-flat_no_list word rest (inr (inr (inr (inr (inr (inl is)))))) same =
-    let e = ap first_of is in let f = ap first_of same in omega (arith, e, f)
-flat_no_list word rest (inr (inr (inr (inr (inr (inr none)))))) same = elim none [ ]

@@ -42,6 +42,7 @@ use Rattle.cat_names.specs.Lists.{numbered}
 use Rattle.cat_names.specs.Bodies.{UnorderedBody, defs_in, assertions_in, body_found, bodies_meant}
 use Rattle.cat_names.specs.TypedMeanings.{OnFound}
 use Rattle.cat_lower.specs.Files.{own_file, files_in, DefFits, AssertionFits, BodyFits}
+use Rattle.cat_verify_tables.proofs.Exported.{all_mapped}
 use Rattle.cat_emitted.proofs.FoundLemmas.{on_then, on_both, on_any}
 use Rattle.cat_emitted.proofs.FoundLemmas.{on_ok}
 use Rattle.cat_emitted.proofs.TreePositions.{HasFiles, HaveFiles, files_front, files_back, files_all}
@@ -63,10 +64,6 @@ filtered P test (x ∷ xs) h = by (filtered P test xs h.1) (test x) refl
     by : AllHave P (filter test xs) → (b : Bool) → test x ≡ b → AllHave P (filter test (x ∷ xs))
     by more true e = rw e (h.0, more)
     by more false e = rw e more
-
-mapped : {A B : Type 0} (P : B → Type 0) (f : A → B) (xs : List A) → AllHave P (map f xs) → AllHave (λ x. P (f x)) xs
-mapped P f [] h = tt
-mapped P f (x ∷ xs) h = (h.0, mapped P f xs h.1)
 
 -- ---- what stands in files
 
@@ -245,7 +242,7 @@ module _ (Q : ℕ → Type 0) where
   pub bodies_fit : (tree : Tree) (ds : Decls) (bodies : List Body) → HaveFiles Q (program_parts tree)
       → bodies_meant ds tree ≡ Ok (map unordered bodies) → AllHave (BodyFits Q) bodies
   bodies_fit tree ds bodies h meant =
-      all_ordered bodies (mapped UnorderedFits unordered bodies
+      all_ordered bodies (all_mapped UnorderedFits unordered bodies
       (on_ok (AllHave UnorderedFits) (bodies_meant ds tree) (map unordered bodies) meant
       (on_all UnorderedFits (body_found ds tree.items) (numbered ds.scopes)
       (body_fits ds tree.items (files_all Q item_parts tree.items h)))))

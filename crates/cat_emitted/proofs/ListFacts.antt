@@ -5,6 +5,7 @@ use Rattle.std.specs.Prelude.{bytes_eq}
 use Rattle.std.proofs.lemmas.Slice.Eq.{bytes_eq-Decides}
 use Rattle.cat_scope.specs.Names.{AllHave, IsOneOf}
 use Rattle.cat_names.proofs.Exported.{Apart, in_front, behind}
+use Rattle.cat_verify_tables.proofs.Exported.{one_there}
 use Rattle.cat_emitted.specs.Spelled.{AreApart}
 
 -- ---- what holds of each
@@ -17,15 +18,6 @@ pub all_right : {A : Type 0} (P : A → Type 0) (xs ys : List A) → AllHave P (
 all_right P [] ys h = h
 all_right P (x ∷ xs) ys h = all_right P xs ys h.1
 
-pub each_of : {A : Type 0} (P Q : A → Type 0) → ((x : A) → P x → Q x) → (xs : List A) → AllHave P xs → AllHave Q xs
-each_of P Q on [] all = tt
-each_of P Q on (x ∷ xs) all = (on x all.0, each_of P Q on xs all.1)
-
-pub all_map : {A B : Type 0} (P : B → Type 0) (f : A → B) (xs : List A) → AllHave (λ x. P (f x)) xs
-    → AllHave P (map f xs)
-all_map P f [] h = tt
-all_map P f (x ∷ xs) h = (h.0, all_map P f xs h.1)
-
 pub all_at : {A : Type 0} (P : A → Type 0) (xs : List A) (k : ℕ) (x : A) → AllHave P xs → slice_get xs k ≡ Some x → P x
 all_at P [] k x all h = cc h
 all_at P (y ∷ ys) zero x all h = let is : y ≡ x = cc h in subst P is all.0
@@ -37,11 +29,6 @@ all_of_one P (y ∷ ys) x all (inl is) = subst P (sym is) all.0
 all_of_one P (y ∷ ys) x all (inr h) = all_of_one P ys x all.1 h
 
 -- ---- one of a list
-
-pub one_at : {A : Type 0} (xs : List A) (k : ℕ) (x : A) → slice_get xs k ≡ Some x → IsOneOf x xs
-one_at [] k x h = cc h
-one_at (y ∷ ys) zero x h = inl (cc h)
-one_at (y ∷ ys) (suc k) x h = inr (one_at ys k x h)
 
 pub at_one : {A : Type 0} (xs : List A) (x : A) → IsOneOf x xs → (k : ℕ) × (slice_get xs k ≡ Some x)
 at_one [] x h = elim h [ ]
@@ -102,11 +89,11 @@ apart_places name (z ∷ zs) zero zero x y apart h i same = refl
 apart_places name (z ∷ zs) zero (suc l) x y apart h i same =
     let is : z ≡ x = cc h in
     absurd (apart.0 (subst (λ (t : List ℕ). IsOneOf t (map name zs)) (sym (ap name is ∙ same))
-    (one_mapped name y zs (one_at zs l y i))))
+    (one_mapped name y zs (one_there zs l y i))))
 apart_places name (z ∷ zs) (suc k) zero x y apart h i same =
     let is : z ≡ y = cc i in
     absurd (apart.0 (subst (λ (t : List ℕ). IsOneOf t (map name zs)) (sym (ap name is ∙ sym same))
-    (one_mapped name x zs (one_at zs k x h))))
+    (one_mapped name x zs (one_there zs k x h))))
 apart_places name (z ∷ zs) (suc k) (suc l) x y apart h i same =
     ap suc (apart_places name zs k l x y apart.1 h i same)
 

@@ -22,17 +22,18 @@ use Rattle.cat_image.specs.InstructionWords.{IsSmallInstr}
 use Rattle.cat_image.specs.Rows.{row_text, IsRow, structure_rows, enumeration_rows, scope_rows}
 use Rattle.cat_image.specs.Rows.{instruction_rows, rows_of}
 use Rattle.cat_image.specs.Listed.{words_of, is_line, IsListable, target_words, constant_words, pos_words}
+use Rattle.cat_verify_tables.proofs.Exported.{tests_have, map_have, each_has}
 use Rattle.cat_emitted.specs.Spelled.{AreSpelledDecls}
 use Rattle.cat_lower.specs.Files.{IsVariableTarget}
 use Rattle.cat_emitted.specs.Emitted.{IsOfFiles, AreOfFiles}
 use Rattle.cat_emitted.proofs.Readings.{IsReadBack}
-use Rattle.cat_emitted.proofs.ListFacts.{all_at, all_left, all_right, all_map, each_of}
+use Rattle.cat_emitted.proofs.ListFacts.{all_at, all_left, all_right}
 use Rattle.cat_emitted.proofs.WordFacts.{line_append}
 use Rattle.cat_emitted.proofs.LineFacts.{plain_line, blank_line, pos_line}
 use Rattle.cat_emitted.proofs.ValueLines.{value_line}
 use Rattle.cat_emitted.proofs.PlaceFacts.{small_pos}
 use Rattle.cat_emitted.proofs.TargetLines.{target_line, target_name}
-use Rattle.cat_emitted.proofs.ConstantFacts.{constant_declared, all_tests}
+use Rattle.cat_emitted.proofs.ConstantFacts.{constant_declared}
 use Rattle.cat_emitted.proofs.WhatFacts as what
 use Rattle.cat_emitted.proofs.ItemFacts as items
 use Rattle.cat_emitted.proofs.ListedRows as rows
@@ -70,7 +71,7 @@ module _ (code : Tables) (instructions : List Instr) (files : List Text) (spelle
 
   entries_small : AllHave IsSmall (entries_of code)
   entries_small = small_places (length instructions) few (entries_of code)
-      (all_tests (λ place. nat_lt place (length instructions)) (entries_of code) entries)
+      (tests_have (λ place. nat_lt place (length instructions)) (entries_of code) entries)
 
   target_stands : (t : TargetEntry) → IsOfFiles files t.pos → IsVariableTarget code.decls t.target
       → MayStand (row.Target (target_words code.decls t))
@@ -85,8 +86,8 @@ module _ (code : Tables) (instructions : List Instr) (files : List Text) (spelle
       }
 
   targets_stand : AllHave MayStand (map row.Target image.targets)
-  targets_stand = all_map MayStand row.Target image.targets
-      (all_map (λ t. MayStand (row.Target t)) (target_words code.decls) code.targets
+  targets_stand = map_have MayStand row.Target image.targets
+      (map_have (λ t. MayStand (row.Target t)) (target_words code.decls) code.targets
       (items.all_from (λ t. MayStand (row.Target (target_words code.decls t))) code.targets (λ k t own.
       target_stands t (all_at (λ (e : TargetEntry). IsOfFiles files e.pos) code.targets k t placed.targets own)
       (all_at (λ (e : TargetEntry). IsVariableTarget code.decls e.target) code.targets k t targets own))))
@@ -103,12 +104,12 @@ module _ (code : Tables) (instructions : List Instr) (files : List Text) (spelle
       }
 
   constants_stand : AllHave MayStand (map row.Constant image.constants)
-  constants_stand = all_map MayStand row.Constant image.constants
-      (all_map (λ c. MayStand (row.Constant c)) (constant_words code.decls) code.constants
+  constants_stand = map_have MayStand row.Constant image.constants
+      (map_have (λ c. MayStand (row.Constant c)) (constant_words code.decls) code.constants
       (items.all_from (λ c. MayStand (row.Constant (constant_words code.decls c))) code.constants (λ k c own.
       constant_stands c
       (all_at (λ (x : Constant). IsTrue (constant_is_sound code.decls x)) code.constants k c
-      (all_tests (constant_is_sound code.decls) code.constants constants) own)
+      (tests_have (constant_is_sound code.decls) code.constants constants) own)
       (all_at (IsReadBack code.decls) code.constants k c back own))))
 
   all_stand : AllHave MayStand (rows_of image instructions)
@@ -123,16 +124,16 @@ module _ (code : Tables) (instructions : List Instr) (files : List Text) (spelle
       let ps = map row.Position image.positions in
       let ks = map row.Constant image.constants in
       let is = instruction_rows 0 instructions in
-      all_append MayStand fs _ (all_map MayStand row.File files
-      (each_of (λ name. IsTrue (is_line name)) (λ name. MayStand (row.File name)) rows.file_stands files files_lined))
+      all_append MayStand fs _ (map_have MayStand row.File files
+      (each_has (λ name. IsTrue (is_line name)) (λ name. MayStand (row.File name)) rows.file_stands files files_lined))
       (all_append MayStand ss _ (rows.structures_stand code files spelled one_entry_each placed)
       (all_append MayStand es _ (rows.enumerations_stand code files spelled one_entry_each placed)
       (all_append MayStand cs _ (rows.scopes_stand code files spelled one_entry_each placed
       (all_left IsSmall code.scopes code.functions entries_small))
       (all_append MayStand ts _ targets_stand
       (all_append MayStand ds _ (rows.definitions_stand code files spelled one_entry_each placed)
-      (all_append MayStand ns _ (all_map MayStand row.Function code.functions
-      (each_of IsSmall (λ n. MayStand (row.Function n)) rows.function_stands code.functions
+      (all_append MayStand ns _ (map_have MayStand row.Function code.functions
+      (each_has IsSmall (λ n. MayStand (row.Function n)) rows.function_stands code.functions
       (all_right IsSmall code.scopes code.functions entries_small)))
       (all_append MayStand ps _ (rows.positions_stand code files spelled one_entry_each placed)
       (all_append MayStand ks _ constants_stand

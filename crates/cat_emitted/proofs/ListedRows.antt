@@ -29,9 +29,10 @@ use Rattle.cat_image.specs.Rows.{scope_rows, instruction_rows}
 use Rattle.cat_image.specs.Listed.{is_line, structure_words, enumeration_words, field_words, case_words}
 use Rattle.cat_image.specs.Listed.{item_words, kind_words, scopes_words, pos_words}
 use Rattle.cat_image.specs.Listed.{content_words}
+use Rattle.cat_verify_tables.proofs.Exported.{one_there, map_have}
 use Rattle.cat_emitted.specs.Spelled.{AreSpelledDecls, IsTypeWord, IsSpelledScope}
 use Rattle.cat_emitted.specs.Emitted.{IsOfFiles, AreOfFiles}
-use Rattle.cat_emitted.proofs.ListFacts.{all_at, all_map, one_at}
+use Rattle.cat_emitted.proofs.ListFacts.{all_at}
 use Rattle.cat_emitted.proofs.WordFacts.{line_append, type_line, part_line, type_name, part_name}
 use Rattle.cat_emitted.proofs.LineFacts.{plain_line, small_line, blank_line, pos_line, kind_line}
 use Rattle.cat_emitted.proofs.InstructionFacts.{instr_line}
@@ -96,11 +97,11 @@ module _ (code : Tables) (files : List Text) (spelled : AreSpelledDecls code.dec
           line = front_line (codes "structure ") s.name (plain_line (codes "structure ") refl)
               (type_line s.name word.name);
         },
-        all_map MayStand row.Field (map (field_words ds) s.fields)
-            (all_map (λ f. MayStand (row.Field f)) (field_words ds) s.fields
+        map_have MayStand row.Field (map (field_words ds) s.fields)
+            (map_have (λ f. MayStand (row.Field f)) (field_words ds) s.fields
             (items.all_from (λ f. MayStand (row.Field (field_words ds f))) s.fields (λ k f own.
             let name = all_at _ s.fields k f word.fields own in
-            let declared = types.field_declared code files spelled n s f at (one_at s.fields k f own) in
+            let declared = types.field_declared code files spelled n s f at (one_there s.fields k f own) in
             record {
               row = (part_name f.name name, what.type_is ds spelled f.ty declared);
               line = front_line (codes "field ") _ (plain_line (codes "field ") refl)
@@ -118,7 +119,7 @@ module _ (code : Tables) (files : List Text) (spelled : AreSpelledDecls code.dec
           → IsContent (content_words ds o) × (is_line (content_text (content_words ds o)) ≡ true)
       by None is = (tt, plain_line [] refl)
       by (Some t) is =
-          let declared = types.case_declared code files spelled n e c t at (one_at e.cases k c own) is in
+          let declared = types.case_declared code files spelled n e c t at (one_there e.cases k c own) is in
           (what.type_is ds spelled t declared, blank_line (type_text ds t) (what.type_lined ds spelled t declared))
 
   enumeration_stands : (n : ℕ) (e : Enumeration) → slice_get ds.enumerations n ≡ Some e
@@ -130,8 +131,8 @@ module _ (code : Tables) (files : List Text) (spelled : AreSpelledDecls code.dec
           line = front_line (codes "enumeration ") e.name (plain_line (codes "enumeration ") refl)
               (type_line e.name word.name);
         },
-        all_map MayStand row.Case (map (case_words ds) e.cases)
-            (all_map (λ c. MayStand (row.Case c)) (case_words ds) e.cases
+        map_have MayStand row.Case (map (case_words ds) e.cases)
+            (map_have (λ c. MayStand (row.Case c)) (case_words ds) e.cases
             (items.all_from (λ c. MayStand (row.Case (case_words ds c))) e.cases (λ k c own.
             let name = all_at _ e.cases k c word.cases own in
             let content = content_stands n k e c at own in
@@ -144,12 +145,12 @@ module _ (code : Tables) (files : List Text) (spelled : AreSpelledDecls code.dec
 
   pub structures_stand : AllHave MayStand (flat_map structure_rows (map (structure_words ds) ds.structures))
   structures_stand = flat_stand structure_rows (map (structure_words ds) ds.structures)
-      (all_map (λ s. AllHave MayStand (structure_rows s)) (structure_words ds) ds.structures
+      (map_have (λ s. AllHave MayStand (structure_rows s)) (structure_words ds) ds.structures
       (items.all_from (λ s. AllHave MayStand (structure_rows (structure_words ds s))) ds.structures structure_stands))
 
   pub enumerations_stand : AllHave MayStand (flat_map enumeration_rows (map (enumeration_words ds) ds.enumerations))
   enumerations_stand = flat_stand enumeration_rows (map (enumeration_words ds) ds.enumerations)
-      (all_map (λ e. AllHave MayStand (enumeration_rows e)) (enumeration_words ds) ds.enumerations
+      (map_have (λ e. AllHave MayStand (enumeration_rows e)) (enumeration_words ds) ds.enumerations
       (items.all_from (λ e. AllHave MayStand (enumeration_rows (enumeration_words ds e))) ds.enumerations
       enumeration_stands))
 
@@ -201,8 +202,8 @@ module _ (code : Tables) (files : List Text) (spelled : AreSpelledDecls code.dec
       → AllHave MayStand (map row.Item (map (item_words ds) s.items))
   scope_items_stand n s at =
       let places = all_at (λ (r : Scope). AllHave (λ i. IsOfFiles files i.pos) r.items) ds.scopes n s placed.items at in
-      all_map MayStand row.Item (map (item_words ds) s.items)
-      (all_map (λ i. MayStand (row.Item i)) (item_words ds) s.items
+      map_have MayStand row.Item (map (item_words ds) s.items)
+      (map_have (λ i. MayStand (row.Item i)) (item_words ds) s.items
       (items.all_from (λ i. MayStand (row.Item (item_words ds i))) s.items (λ k i own.
       item_stands i (items.item_fair code files spelled one_entry_each n k s i at own)
       (all_at (λ (i : ItemDecl). IsOfFiles files i.pos) s.items k i places own))))
@@ -239,8 +240,8 @@ module _ (code : Tables) (files : List Text) (spelled : AreSpelledDecls code.dec
       line_append word (pos_text (pos_words p)) line (pos_line (pos_words p) (small_pos files p there))
 
   pub definitions_stand : AllHave MayStand (map row.Definition (map pos_words code.definitions))
-  definitions_stand = all_map MayStand row.Definition (map pos_words code.definitions)
-      (all_map (λ p. MayStand (row.Definition p)) pos_words code.definitions
+  definitions_stand = map_have MayStand row.Definition (map pos_words code.definitions)
+      (map_have (λ p. MayStand (row.Definition p)) pos_words code.definitions
       (items.all_from (λ p. MayStand (row.Definition (pos_words p))) code.definitions (λ k p own.
       let there = all_at (IsOfFiles files) code.definitions k p placed.definitions own in
       record {
@@ -249,8 +250,8 @@ module _ (code : Tables) (files : List Text) (spelled : AreSpelledDecls code.dec
       })))
 
   pub positions_stand : AllHave MayStand (map row.Position (map pos_words code.positions))
-  positions_stand = all_map MayStand row.Position (map pos_words code.positions)
-      (all_map (λ p. MayStand (row.Position p)) pos_words code.positions
+  positions_stand = map_have MayStand row.Position (map pos_words code.positions)
+      (map_have (λ p. MayStand (row.Position p)) pos_words code.positions
       (items.all_from (λ p. MayStand (row.Position (pos_words p))) code.positions (λ k p own.
       let there = all_at (IsOfFiles files) code.positions k p placed.positions own in
       record {

@@ -16,7 +16,7 @@ use Rattle.cat_image.specs.Words.{Text}
 use Rattle.cat_image.specs.Listed.{words_of, pos_words, target_words, constant_words}
 use Rattle.cat_verify_tables.specs.WrongParts.{IsLost, IsWrongTarget}
 use Rattle.cat_verify_tables.specs.WrongTables.{IsBadTable, IsWrongConstant}
-use Rattle.cat_verify_tables.proofs.Exported.{none_is_bad}
+use Rattle.cat_verify_tables.proofs.Exported.{none_is_bad, tests_have}
 use Rattle.cat_emitted.specs.Spelled.{AreSpelledDecls, AreApart}
 use Rattle.cat_lower.specs.Files.{IsVariableTarget}
 use Rattle.cat_emitted.specs.Emitted.{IsOfFiles, AreOfFiles}
@@ -25,7 +25,7 @@ use Rattle.cat_emitted.proofs.ListFacts.{all_of_one, apart_across, one_unmapped}
 use Rattle.cat_emitted.proofs.PartFacts.{structures_are_right, enumerations_are_right}
 use Rattle.cat_emitted.proofs.ScopeFacts.{scopes_are_right}
 use Rattle.cat_emitted.proofs.TargetFacts.{target_right}
-use Rattle.cat_emitted.proofs.ConstantFacts.{constant_right, all_tests}
+use Rattle.cat_emitted.proofs.ConstantFacts.{constant_right}
 use Rattle.cat_emitted.proofs.PlaceFacts.{not_lost}
 
 module _ (code : Tables) (files : List Text) (spelled : AreSpelledDecls code.decls)
@@ -62,7 +62,7 @@ module _ (code : Tables) (files : List Text) (spelled : AreSpelledDecls code.dec
       let own = one_unmapped (constant_words code.decls) c code.constants one in
       constant_right code files spelled alike own.0
       (all_of_one (λ (x : Constant). IsTrue (constant_is_sound code.decls x)) code.constants own.0
-      (all_tests (constant_is_sound code.decls) code.constants constants) own.1)
+      (tests_have (constant_is_sound code.decls) code.constants constants) own.1)
       (all_of_one (IsReadBack code.decls) code.constants own.0 back own.1) (subst (IsWrongConstant image) own.2 wrong)
 
   pub none_bad : (n : ℕ) → IsBadTable image n → ⊥

@@ -33,9 +33,10 @@ use Rattle.cat_verify_tables.specs.TypeWords as words
 use Rattle.cat_verify_tables.specs.WrongParts.{IsWrongName, IsWrongType, IsWrongPart, ClosesCycle}
 use Rattle.cat_verify_tables.specs.inside.DeclaredWords.{structures_named, enumeration_name}
 use Rattle.cat_verify_tables.proofs.Exported.{IsRightStructure, NoContent, IsRightCase, IsRightEnumeration}
+use Rattle.cat_verify_tables.proofs.Exported.{one_there}
 use Rattle.std.proofs.lemmas.Bool.Decides.{nat_tests}
 use Rattle.cat_emitted.specs.Spelled.{AreSpelledDecls, IsTypeWord, IsPartWord, AreApart}
-use Rattle.cat_emitted.proofs.ListFacts.{all_at, one_at, one_mapped, all_of_one, apart_left, apart_right}
+use Rattle.cat_emitted.proofs.ListFacts.{all_at, one_mapped, all_of_one, apart_left, apart_right}
 use Rattle.cat_emitted.proofs.ListFacts.{apart_across, one_of_both}
 use Rattle.cat_emitted.proofs.TypeFacts as types
 use Rattle.cat_emitted.proofs.Splits.{IsSplit, map_split, split_at, split_one, split_before, apart_front}
@@ -123,7 +124,7 @@ module _ (code : Tables) (files : List Text) (spelled : AreSpelledDecls code.dec
       → HasPart image s.name (type_text ds f.ty)
   field_part n s f at one =
       words.field (structure_words ds s) (field_words ds f)
-      (one_mapped (structure_words ds) s ds.structures (one_at ds.structures n s at))
+      (one_mapped (structure_words ds) s ds.structures (one_there ds.structures n s at))
       (one_mapped (field_words ds) f s.fields one)
 
   right_field : (n : ℕ) (s : Structure) (f : Field) → slice_get ds.structures n ≡ Some s → IsOneOf f s.fields
@@ -152,7 +153,7 @@ module _ (code : Tables) (files : List Text) (spelled : AreSpelledDecls code.dec
       → IsOneOf c e.cases → c.content ≡ Some t → HasPart image e.name (type_text ds t)
   content_part n e c t at one is =
       words.content (enumeration_words ds e) (case_words ds c) (type_text ds t)
-      (one_mapped (enumeration_words ds) e ds.enumerations (one_at ds.enumerations n e at))
+      (one_mapped (enumeration_words ds) e ds.enumerations (one_there ds.enumerations n e at))
       (one_mapped (case_words ds) c e.cases one) (ap (content_words ds) is)
 
   right_content : (n : ℕ) (e : Enumeration) (c : Case) (t : Ty) → slice_get ds.enumerations n ≡ Some e

@@ -16,10 +16,9 @@ use Rattle.cat_image.specs.declared.tables.ImageCase.{ImageCase}
 use Rattle.cat_image.specs.declared.tables.ImageEnumeration.{ImageEnumeration}
 use Rattle.cat_image.specs.Words.{Text}
 use Rattle.cat_image.specs.Listed.{case_words, content_words, enumeration_words, field_words, structure_words, words_of}
-use Rattle.cat_verify_tables.proofs.Exported.{words_one, map_twice, same_value}
+use Rattle.cat_verify_tables.proofs.Exported.{words_one, map_twice, same_value, one_there}
 use Rattle.cat_emitted.specs.Spelled.{AreSpelledDecls}
 use Rattle.cat_emitted.proofs.Readings.{AreReadAlike}
-use Rattle.cat_emitted.proofs.ListFacts.{one_at}
 use Rattle.cat_emitted.proofs.ItemFacts.{all_from}
 use Rattle.cat_emitted.proofs.TypeFacts as types
 use Rattle.cat_emitted.proofs.SameTexts.{text_only}
@@ -92,14 +91,14 @@ module _ (code : Tables) (files : List Text) (spelled : AreSpelledDecls code.dec
     where
       by : (x : Option Ty) → c.content ≡ x → HasDeclared x
       by None is = tt
-      by (Some t) is = types.case_declared code files spelled n e c t at (one_at e.cases k c own) is
+      by (Some t) is = types.case_declared code files spelled n e c t at (one_there e.cases k c own) is
 
   same_structures : ds.structures ≡ o.structures
   same_structures = words_one (structure_words ds) (structure_words o)
       (λ (s : Structure). AllHave (λ (f : Field). IsDeclared f.ty) s.fields) structure_one ds.structures o.structures
       (all_from (λ (s : Structure). AllHave (λ (f : Field). IsDeclared f.ty) s.fields) ds.structures (λ n s at.
       all_from (λ (f : Field). IsDeclared f.ty) s.fields (λ k f own.
-      types.field_declared code files spelled n s f at (one_at s.fields k f own)))) structures
+      types.field_declared code files spelled n s f at (one_there s.fields k f own)))) structures
 
   same_enumerations : ds.enumerations ≡ o.enumerations
   same_enumerations = words_one (enumeration_words ds) (enumeration_words o)

@@ -17,9 +17,10 @@ use Rattle.cat_code.specs.declared.code.Tables.{Tables}
 use Rattle.cat_listing.specs.Texts.{type_text, name_at}
 use Rattle.cat_listing.proofs.TypeTexts as texts
 use Rattle.cat_image.specs.Words.{Text}
+use Rattle.cat_verify_tables.proofs.Exported.{one_there, first_of}
 use Rattle.cat_emitted.specs.Spelled.{AreSpelledDecls}
-use Rattle.cat_emitted.proofs.ListFacts.{all_at, one_at, apart_places, apart_left, apart_right}
-use Rattle.cat_emitted.proofs.FirstLetters.{first_of, first_capital, named_some}
+use Rattle.cat_emitted.proofs.ListFacts.{all_at, apart_places, apart_left, apart_right}
+use Rattle.cat_emitted.proofs.FirstLetters.{first_capital, named_some}
 use Rattle.cat_emitted.proofs.TypeFacts as types
 
 -- ---- types without parts, by the first letters of their texts
@@ -210,8 +211,8 @@ module _ (code : Tables) (files : List Text) (spelled : AreSpelledDecls code.dec
           by (Some r) there e =
               let own = named_there (λ (x : Enumeration). x.name) ds.enumerations o.enumerations m r enumerations
               there in
-              absurd (types.kinds_apart code files spelled s own.0 (one_at ds.structures n s at)
-              (one_at ds.enumerations m own.0 own.1) (e ∙ sym own.2))
+              absurd (types.kinds_apart code files spelled s own.0 (one_there ds.structures n s at)
+              (one_there ds.enumerations m own.0 own.1) (e ∙ sym own.2))
 
   enumeration_only : (n : ℕ) → IsOnly (flat.Enumeration n)
   enumeration_only n declared u same =
@@ -232,8 +233,8 @@ module _ (code : Tables) (files : List Text) (spelled : AreSpelledDecls code.dec
               absurd (named_some s.name (all_at _ ds.enumerations n s spelled.enumerations at).name.word e)
           by (Some r) there e =
               let own = named_there (λ (x : Structure). x.name) ds.structures o.structures m r structures there in
-              absurd (types.kinds_apart code files spelled own.0 s (one_at ds.structures m own.0 own.1)
-              (one_at ds.enumerations n s at) (own.2 ∙ sym e))
+              absurd (types.kinds_apart code files spelled own.0 s (one_there ds.structures m own.0 own.1)
+              (one_there ds.enumerations n s at) (own.2 ∙ sym e))
 
       in_enumerations : (s : Enumeration) (m : ℕ) → slice_get ds.enumerations n ≡ Some s → u ≡ flat.Enumeration m
           → s.name ≡ name_at (λ (r : Enumeration). r.name) (slice_get o.enumerations m) → flat.Enumeration n ≡ u

@@ -2,7 +2,7 @@
 use Rattle.std.proofs.Common.{◌≡◌, ◌≤◌, ◌+◌, ℕ, zero, suc, List, [], ◌∷◌, ◌++◌, map, length, Some, slice_get, refl}
 use Rattle.std.proofs.Common.{sym}
 use Rattle.std.proofs.Common.{ap, ◌∙◌, subst, arith, inl, inr}
-use Rattle.std.proofs.lemmas.List.{length-append, length-map}
+use Rattle.std.proofs.lemmas.List.{length-append, length-map, map-append}
 use Rattle.cat_scope.specs.Names.{IsOneOf}
 use Rattle.cat_value.specs.declared.declaration.Scope.{Scope}
 use Rattle.cat_value.specs.declared.decls.Decls.{Decls}
@@ -13,10 +13,6 @@ use Rattle.cat_emitted.specs.Spelled.{AreApart}
 use Rattle.cat_emitted.proofs.ListFacts.{apart_across}
 
 -- ---- lists
-
-pub map_append : {A B : Type 0} (f : A → B) (xs ys : List A) → map f (xs ++ ys) ≡ map f xs ++ map f ys
-map_append f [] ys = refl
-map_append f (x ∷ xs) ys = ap (λ (zs : List _). f x ∷ zs) (map_append f xs ys)
 
 pub at_seam : {A : Type 0} (front : List A) (x : A) (rest : List A)
     → slice_get (front ++ x ∷ rest) (length front) ≡ Some x
@@ -76,7 +72,7 @@ pub apart_front : {A : Type 0} (name : A → List ℕ) (xs front : List A) (x : 
     → xs ≡ front ++ x ∷ rest → AreApart (map name xs) → IsOneOf (name x) (map name front) → ⊥
 apart_front name xs front x rest are apart one =
     apart_across (map name front) (map name (x ∷ rest)) (name x)
-    (subst AreApart (ap (map name) are ∙ map_append name front (x ∷ rest)) apart) one (inl refl)
+    (subst AreApart (ap (map name) are ∙ map-append name front (x ∷ rest)) apart) one (inl refl)
 
 -- ---- scopes, with their entries
 

@@ -1,5 +1,5 @@
 -- Targets that are variables are right.
-use Rattle.std.proofs.Common.{◌≡◌, ◌≢◌, ℕ, false, true≢false, List, ◌++◌, length, Option}
+use Rattle.std.proofs.Common.{◌≡◌, ℕ, false, List, ◌++◌, length, Option}
 use Rattle.std.proofs.Common.{Some}
 use Rattle.std.proofs.Common.{None, slice_get, inl, inr, refl, sym, ap, ◌∙◌, subst}
 use Rattle.std.specs.Prelude.{codes, option_map}
@@ -18,26 +18,17 @@ use Rattle.cat_code.specs.declared.code.TargetEntry.{TargetEntry}
 use Rattle.cat_code.specs.Places.{target_decl, inner_of, inner_item, called_scope}
 use Rattle.cat_listing.specs.Texts.{name_at}
 use Rattle.cat_listing.specs.DeclarationLines.{what_text}
-use Rattle.cat_image.specs.declared.tables.ImageKind.TheVariants as words
 use Rattle.cat_image.specs.declared.tables.ImageTables.{ImageTables}
 use Rattle.cat_image.specs.Words.{Text}
 use Rattle.cat_image.specs.Listed.{words_of, item_words, kind_words, target_words}
 use Rattle.cat_verify_tables.specs.WrongParts.{HasItem, NamesVariable, IsWrongTarget}
 use Rattle.cat_verify_tables.specs.WrongParts as wrong
+use Rattle.cat_verify_tables.proofs.Exported.{one_there, not_called}
 use Rattle.cat_lower.specs.Files.{IsVariableTarget}
 use Rattle.cat_emitted.specs.Emitted.{IsOfFiles}
-use Rattle.cat_emitted.proofs.ListFacts.{one_at, one_mapped}
+use Rattle.cat_emitted.proofs.ListFacts.{one_mapped}
 use Rattle.cat_emitted.proofs.Splits.{one_scope, scope_there}
 use Rattle.cat_emitted.proofs.PlaceFacts.{not_lost}
-
-pub plain_words : (k : Kind) → is_called k ≡ false → kind_words k ≢ words.Called
-plain_words kind.Input plain is = cc is
-plain_words kind.Output plain is = cc is
-plain_words kind.Internal plain is = cc is
-plain_words kind.Context plain is = cc is
-plain_words kind.InputOutput plain is = cc is
-plain_words kind.ContextOutput plain is = cc is
-plain_words (kind.Called n) plain is = true≢false plain
 
 -- an item of a scope
 pub record IsItemAt (ds : Decls) (scope k : ℕ) (item : ItemDecl) : Type 0 where
@@ -97,7 +88,7 @@ module _ (code : Tables) (files : List Text) (one_entry_each : length code.scope
         declared = one_scope ds at.owner there.0;
         is_declared = there.1;
         name = refl;
-        is_item = one_mapped (item_words ds) item at.owner.items (one_at at.owner.items k item at.item_at);
+        is_item = one_mapped (item_words ds) item at.owner.items (one_there at.owner.items k item at.item_at);
       }
 
   -- ---- texts
@@ -137,7 +128,7 @@ module _ (code : Tables) (files : List Text) (one_entry_each : length code.scope
       subst (NamesVariable image)
       (sym (place_text target item at
       ∙ ap (λ (o : Option ℕ). at.owner.name ++ (codes "." ++ item_text ds item o)) none))
-      (wrong.own (has_item target.scope target.item item at) (plain_words item.kind plain))
+      (wrong.own (has_item target.scope target.item item at) (not_called item.kind plain))
 
   inner_named : (target : Target) (inner : ℕ) (item : ItemDecl) → target.inner ≡ Some inner
       → IsInnerAt ds target.scope target.item inner item → is_called item.kind ≡ false
@@ -151,7 +142,7 @@ module _ (code : Tables) (files : List Text) (one_entry_each : length code.scope
       (wrong.inner (has_item target.scope target.item at.caller at.caller_at) (ap kind_words at.calls)
       (subst (λ (w : Text). HasItem image w (item_words ds item))
       (sym (what_called at.caller at.called at.inner_at.owner at.calls at.inner_at.owner_at))
-      (has_item at.called inner item at.inner_at)) (plain_words item.kind plain))
+      (has_item at.called inner item at.inner_at)) (not_called item.kind plain))
 
   pub target_named : (target : Target) → IsVariableTarget ds target → NamesVariable image (target_text ds target)
   target_named target v = by target.inner refl v.declared

@@ -32,11 +32,12 @@ use Rattle.cat_image.specs.Words.{Text}
 use Rattle.cat_image.specs.Listed.{words_of, structure_words, enumeration_words, field_words, case_words, content_words}
 use Rattle.cat_verify_tables.specs.TypeWords.{IsKnown, IsHigher, HasPart, flat_types}
 use Rattle.cat_verify_tables.specs.TypeWords as words
+use Rattle.cat_verify_tables.proofs.Exported.{no_flat_list, one_there}
 use Rattle.cat_names.proofs.Exported.{in_front, behind}
 use Rattle.cat_emitted.specs.Spelled.{AreSpelledDecls}
-use Rattle.cat_emitted.proofs.ListFacts.{all_at, one_at, at_one, one_mapped, one_unmapped}
+use Rattle.cat_emitted.proofs.ListFacts.{all_at, at_one, one_mapped, one_unmapped}
 use Rattle.cat_emitted.proofs.ListFacts.{apart_left, apart_right, apart_across, apart_places}
-use Rattle.cat_emitted.proofs.FirstLetters.{named_no_list, flat_no_list, flat_no_name}
+use Rattle.cat_emitted.proofs.FirstLetters.{named_no_list, flat_no_name}
 
 -- ---- heights of parts
 
@@ -131,7 +132,7 @@ module _ (code : Tables) (files : List Text) (spelled : AreSpelledDecls code.dec
       (subst (λ (w : Text). IsOneOf w (map (λ (s : ImageStructure). s.name) image.structures))
       (sym (structure_text n it.0 it.1))
       (one_mapped (λ (s : ImageStructure). s.name) (structure_words ds it.0) image.structures
-      (one_mapped (structure_words ds) it.0 ds.structures (one_at ds.structures n it.0 it.1)))))
+      (one_mapped (structure_words ds) it.0 ds.structures (one_there ds.structures n it.0 it.1)))))
 
   enumeration_known : (n : ℕ) → HasKnown (flat.Enumeration n)
   enumeration_known n declared =
@@ -142,7 +143,7 @@ module _ (code : Tables) (files : List Text) (spelled : AreSpelledDecls code.dec
       (subst (λ (w : Text). IsOneOf w (map (λ (e : ImageEnumeration). e.name) image.enumerations))
       (sym (enumeration_text n it.0 it.1))
       (one_mapped (λ (e : ImageEnumeration). e.name) (enumeration_words ds it.0) image.enumerations
-      (one_mapped (enumeration_words ds) it.0 ds.enumerations (one_at ds.enumerations n it.0 it.1)))))
+      (one_mapped (enumeration_words ds) it.0 ds.enumerations (one_there ds.enumerations n it.0 it.1)))))
 
   pub type_known : (t : Ty) → HasKnown t
   type_known = type_induction HasKnown
@@ -233,7 +234,7 @@ module _ (code : Tables) (files : List Text) (spelled : AreSpelledDecls code.dec
     where
       by : ((text : Text) × (word ≡ codes "list of " ++ text) × IsHigher image k text)
           ⊎ ((text : Text) × HasPart image word text × IsHigher image k text) → ⊥
-      by (inl it) = flat_no_list word it.0 one it.1
+      by (inl it) = no_flat_list word it.0 one it.1
       by (inr it) = flat_part word it.0 one (part_told word it.0 it.1)
 
   module _ (k : ℕ) (below : (t : Ty) → IsLowTo k t) where
@@ -261,7 +262,7 @@ module _ (code : Tables) (files : List Text) (spelled : AreSpelledDecls code.dec
         let part = field_below (height k) s.fields f one in
         below f.ty (field_declared n s f at one) (omega (arith, low, count, part)) (subst (IsHigher image k) is high)
     structure_part n s text at low (content m e c t there own has name is) high =
-        kinds_apart s e (one_at ds.structures n s at) (one_at ds.enumerations m e there) name
+        kinds_apart s e (one_there ds.structures n s at) (one_there ds.enumerations m e there) name
 
     structure_low : (n : ℕ) → IsLowTo (suc k) (flat.Structure n)
     structure_low n declared low high =
@@ -278,7 +279,7 @@ module _ (code : Tables) (files : List Text) (spelled : AreSpelledDecls code.dec
     enumeration_part : (n : ℕ) (e : Enumeration) (text : Text) → slice_get ds.enumerations n ≡ Some e
         → height (suc k) (flat.Enumeration n) ≤ suc k → PartOf e.name text → IsHigher image k text → ⊥
     enumeration_part n e text at low (field m r f there own name is) high =
-        kinds_apart r e (one_at ds.structures m r there) (one_at ds.enumerations n e at) (sym name)
+        kinds_apart r e (one_there ds.structures m r there) (one_there ds.enumerations n e at) (sym name)
     enumeration_part n e text at low (content m d c t there own has name is) high =
         let same : d ≡ e = enumerations_apart m n d e there at (sym name) in
         let one : IsOneOf c e.cases = subst (λ (x : Enumeration). IsOneOf c x.cases) same own in

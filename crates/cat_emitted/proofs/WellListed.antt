@@ -20,11 +20,12 @@ use Rattle.cat_code.specs.Valid.{IsValid, constant_is_sound, entries_of}
 use Rattle.cat_image.specs.Words.{Text}
 use Rattle.cat_image.specs.Listed.{words_of}
 use Rattle.cat_verify_tables.specs.TableWords.{AreTablesOf, IsToldWhole, IsBareCall}
+use Rattle.cat_verify_tables.proofs.Exported.{tests_have}
 use Rattle.cat_emitted.specs.Spelled.{IsSpelledItem}
 use Rattle.cat_emitted.specs.Emitted.{AreSmall, AreSpelledTables, IsWellListed}
 use Rattle.cat_emitted.proofs.Readings.{IsReadBack}
 use Rattle.cat_emitted.proofs.ItemFacts as items
-use Rattle.cat_emitted.proofs.ConstantFacts.{all_tests, constants_told}
+use Rattle.cat_emitted.proofs.ConstantFacts.{constants_told}
 use Rattle.cat_emitted.proofs.NoneBad.{none_bad}
 use Rattle.cat_emitted.proofs.Listable.{listable}
 use Rattle.cat_emitted.proofs.ReadBack.{constants_back}
@@ -75,7 +76,7 @@ valid_tables code instructions valid = record {
 module _ (files : List Text) (code : Tables) (instructions : List Instr) (valid : AreValidTables code instructions)
     (tables : AreSpelledTables files code) (small : AreSmall instructions) where
   sound : AllHave (λ (c : Constant). IsTrue (constant_is_sound code.decls c)) code.constants
-  sound = all_tests (constant_is_sound code.decls) code.constants valid.constants
+  sound = tests_have (constant_is_sound code.decls) code.constants valid.constants
 
   back : AllHave (IsReadBack code.decls) code.constants
   back = constants_back code.decls tables.decls code.constants sound

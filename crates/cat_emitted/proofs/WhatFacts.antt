@@ -26,9 +26,10 @@ use Rattle.cat_image.specs.Listed.{is_line}
 use Rattle.cat_image.specs.Rows.{IsConstant}
 use Rattle.cat_image.proofs.TypedLemmas.{words_append}
 use Rattle.cat_verify_tables.specs.WrongParts as wrong
+use Rattle.cat_verify_tables.proofs.Exported.{list_words, first_of}
 use Rattle.cat_emitted.specs.Spelled.{AreSpelledDecls, IsTypeWord}
 use Rattle.cat_emitted.proofs.ListFacts.{all_at}
-use Rattle.cat_emitted.proofs.FirstLetters.{first_of, first_capital}
+use Rattle.cat_emitted.proofs.FirstLetters.{first_capital}
 use Rattle.cat_emitted.proofs.WordFacts.{type_inner, word_some, words_one, unparted_append, type_line}
 use Rattle.cat_emitted.proofs.WordFacts.{line_append}
 use Rattle.cat_emitted.proofs.LineFacts.{plain_line}
@@ -62,20 +63,9 @@ more_types a (b ∷ more) behind types = rw (behind, types) refl
 
 -- ---- words
 
-word_list : words (codes "list") ≡ codes "list" ∷ []
-unfolding parts
-word_list = refl
-
 word_of : words (codes "of") ≡ codes "of" ∷ []
 unfolding parts
 word_of = refl
-
-pub list_words : (text : Text) → words (codes "list of " ++ text) ≡ codes "list" ∷ codes "of" ∷ words text
-list_words text =
-    words_append (codes "list") (codes "of " ++ text)
-    ∙ ap (λ (ws : List Text). ws ++ words (codes "of " ++ text)) word_list
-    ∙ ap (λ (ws : List Text). codes "list" ∷ ws) (words_append (codes "of") text
-    ∙ ap (λ (ws : List Text). ws ++ words text) word_of)
 
 pub of_words : (front text : Text) → words (front ++ (codes " of " ++ text)) ≡ words front ++ codes "of" ∷ words text
 of_words front text =

@@ -9,10 +9,10 @@ use Rattle.cat_code.specs.declared.code.Tables.{Tables}
 use Rattle.cat_code.specs.Valid.{keeps_rules, keep_rules, entries_of, places_entered}
 use Rattle.cat_code.specs.Places.{function_places}
 use Rattle.cat_code.specs.Jumps.{is_within}
+use Rattle.cat_value.proofs.Exported.{list_all_at}
 use Rattle.cat_verify.specs.WrongCode.{BeginsOutside, CallsAbroad, IsBadNumber, IsUndeclared, NamesWrongly}
 use Rattle.cat_verify.specs.inside.GoodNumbers.{HasGoodNumbers}
 use Rattle.cat_verify.proofs.OneOf.{at_of_in, within_of}
-use Rattle.cat_value.proofs.Exported.{list_all_at}
 
 rule_at : (tables : Tables) (code : List Instr) (places : List ℕ) (p : ℕ) (is : List Instr) (k : ℕ) (i : Instr)
     → keep_rules tables code places p is ≡ true → slice_get is k ≡ Some i

@@ -3,7 +3,7 @@ use Rattle.std.proofs.Common.{◌≡◌, ◌≤◌, ◌+◌, ◌⊎◌, ℕ, suc
 use Rattle.std.proofs.Common.{map}
 use Rattle.std.proofs.Common.{Option, Some, slice_get, inl, inr, refl, sym, ap, ◌∙◌, subst, arith, append-nil}
 use Rattle.std.specs.Prelude.{flat_map}
-use Rattle.std.proofs.lemmas.List.{append_assoc, length-append, length-map}
+use Rattle.std.proofs.lemmas.List.{append_assoc, length-append, length-map, map-append}
 use Rattle.cat_value.specs.Declarations.{most_cases}
 use Rattle.cat_image.specs.declared.row.Row.{Row}
 use Rattle.cat_image.specs.declared.row.Row.TheVariants as row
@@ -30,10 +30,6 @@ use Rattle.cat_verify_tables.proofs.FrontLemmas.{open_structure, open_enumeratio
 
 -- ---- where rows stand
 
-pub map_both : {A B : Type 0} (f : A → B) (xs ys : List A) → map f (xs ++ ys) ≡ map f xs ++ map f ys
-map_both f [] ys = refl
-map_both f (x ∷ xs) ys = ap (λ zs. f x ∷ zs) (map_both f xs ys)
-
 flat_both : {A B : Type 0} (f : A → List B) (xs ys : List A) → flat_map f (xs ++ ys) ≡ flat_map f xs ++ flat_map f ys
 flat_both f [] ys = refl
 flat_both f (x ∷ xs) ys =
@@ -47,7 +43,7 @@ row_split make front rest xs k x at =
     let before = map make (take k xs) in
     let after = map make (drop (suc k) xs) in
     let mid : map make xs ≡ before ++ make x ∷ after =
-    ap (map make) (split_at xs k x at) ∙ map_both make (take k xs) (x ∷ drop (suc k) xs) in
+    ap (map make) (split_at xs k x at) ∙ map-append make (take k xs) (x ∷ drop (suc k) xs) in
     ap (λ ys. front ++ (ys ++ rest)) mid ∙ ap (λ ys. front ++ ys) (append_assoc before (make x ∷ after) rest)
     ∙ sym (append_assoc front before (make x ∷ (after ++ rest)))
 
@@ -195,7 +191,8 @@ module _ (tables : ImageTables) where
       → structure_rows s ≡ (row.Structure s.name ∷ map row.Field (take i s.fields))
       ++ row.Field f ∷ map row.Field (drop (suc i) s.fields)
   field_rows s i f at = ap (λ rs. row.Structure s.name ∷ rs)
-      (ap (map row.Field) (split_at s.fields i f at) ∙ map_both row.Field (take i s.fields) (f ∷ drop (suc i) s.fields))
+      (ap (map row.Field) (split_at s.fields i f at)
+      ∙ map-append row.Field (take i s.fields) (f ∷ drop (suc i) s.fields))
 
   pub field_bad : (k : ℕ) (s : ImageStructure) (i : ℕ) (f : ImageField) → slice_get tables.structures k ≡ Some s
       → slice_get s.fields i ≡ Some f
@@ -278,7 +275,7 @@ module _ (tables : ImageTables) where
       → enumeration_rows e ≡ (row.Enumeration e.name ∷ map row.Case (take i e.cases))
       ++ row.Case c ∷ map row.Case (drop (suc i) e.cases)
   case_rows e i c at = ap (λ rs. row.Enumeration e.name ∷ rs)
-      (ap (map row.Case) (split_at e.cases i c at) ∙ map_both row.Case (take i e.cases) (c ∷ drop (suc i) e.cases))
+      (ap (map row.Case) (split_at e.cases i c at) ∙ map-append row.Case (take i e.cases) (c ∷ drop (suc i) e.cases))
 
   case_wrong : (name content_name : Text) (content : Option Text) (before : List ImageCase) (front rest : List Row)
       → IsBadCase tables name before (record { name = content_name; content = content })

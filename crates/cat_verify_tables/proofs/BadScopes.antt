@@ -3,7 +3,7 @@ use Rattle.std.proofs.Common.{◌≡◌, ◌+◌, ℕ, suc, List, [], ◌∷◌,
 use Rattle.std.proofs.Common.{map}
 use Rattle.std.proofs.Common.{Some, slice_get, inl, inr, refl, sym, ap, ◌∙◌, subst, arith, append-nil}
 use Rattle.std.specs.Prelude.{flat_map}
-use Rattle.std.proofs.lemmas.List.{append_assoc, length-append, length-map}
+use Rattle.std.proofs.lemmas.List.{append_assoc, length-append, length-map, map-append}
 use Rattle.cat_names.proofs.Exported.{in_front, behind}
 use Rattle.cat_image.specs.declared.row.Row.{Row}
 use Rattle.cat_image.specs.declared.row.Row.TheVariants as row
@@ -21,7 +21,7 @@ use Rattle.cat_verify_tables.specs.inside.Causes.{IsFaultyIn, lines_in}
 use Rattle.cat_verify_tables.specs.inside.NamedWords.{IsNamedAsTypeAt, IsWrongHeaderAt, case_count, item_count}
 use Rattle.cat_verify_tables.specs.inside.DeclaredWords.{scope_name, structures_named, enumerations_named}
 use Rattle.cat_verify_tables.proofs.BadLemmas.{bad_at, files, structures, enumerations, tail, second, group_bad}
-use Rattle.cat_verify_tables.proofs.BadLemmas.{behind_enumerations, structures_end, map_both}
+use Rattle.cat_verify_tables.proofs.BadLemmas.{behind_enumerations, structures_end}
 use Rattle.cat_verify_tables.proofs.FrontLemmas.{declared_both, declared_behind_files, enumerations_many}
 use Rattle.cat_verify_tables.proofs.FrontLemmas.{structures_declare, enumerations_declare, scopes_declare, scopes_many}
 use Rattle.cat_verify_tables.proofs.RowLemmas.{length_front, split_at}
@@ -96,7 +96,7 @@ module _ (tables : ImageTables) where
       → scope_rows s ≡ (row.Scope s.name s.entry ∷ map row.Item (take i s.items))
       ++ row.Item x ∷ map row.Item (drop (suc i) s.items)
   item_rows s i x at = ap (λ rs. row.Scope s.name s.entry ∷ rs)
-      (ap (map row.Item) (split_at s.items i x at) ∙ map_both row.Item (take i s.items) (x ∷ drop (suc i) s.items))
+      (ap (map row.Item) (split_at s.items i x at) ∙ map-append row.Item (take i s.items) (x ∷ drop (suc i) s.items))
 
   -- what stands in front of an item
   abbrev pub item_front : ℕ → ImageScope → ℕ → List Row

@@ -41,7 +41,7 @@ words_cut front rest none =
 words_whole : (text : Text) → cut 32 text ≡ None → words text ≡ text ∷ []
 words_whole text none = subst (IsCutTo 32 text) none (cut_told 32 text)
 
-list_words : (text : Text) → words (codes "list of " ++ text) ≡ codes "list" ∷ codes "of" ∷ words text
+pub list_words : (text : Text) → words (codes "list of " ++ text) ≡ codes "list" ∷ codes "of" ∷ words text
 unfolding cut
 list_words text =
     words_cut (codes "list") (codes "of " ++ text) refl

@@ -73,7 +73,7 @@ own_is ds scope name n is = by (item_named name (scope_items ds scope)) refl is
           variable = own.1;
         }
 
-not_called : (k : Kind) → is_called k ≡ false → kind_words k ≢ words.Called
+pub not_called : (k : Kind) → is_called k ≡ false → kind_words k ≢ words.Called
 not_called (kind.Called scope) variable same = true≢false variable
 not_called kind.Input variable same = cc same
 not_called kind.Output variable same = cc same

@@ -11,6 +11,7 @@ use Rattle.std.proofs.lemmas.List.{length-append, length-map}
 use Rattle.cat_order.specs.Order.{AreItems, is_listed}
 use Rattle.cat_pos.specs.declared.limits.TheConstants.{ENTRIES_BOUND}
 use Rattle.cat_scope.specs.Names.{AllHave}
+use Rattle.cat_scope.proofs.Exported.{all_append}
 use Rattle.cat_value.specs.declared.ty.Ty.{Ty}
 use Rattle.cat_value.specs.declared.declaration.Field.{Field}
 use Rattle.cat_value.specs.declared.declaration.Structure.{Structure}
@@ -47,11 +48,7 @@ all_have Has [] all k d within = absurd (omega (arith, within))
 all_have Has (x ∷ xs) all zero d within = all.0
 all_have Has (x ∷ xs) all (suc k) d within = all_have Has xs all.1 k d (omega (arith, within))
 
-both_have : {A : Type 0} (Has : A → Type 0) (xs ys : List A) → AllHave Has xs → AllHave Has ys → AllHave Has (xs ++ ys)
-both_have Has [] ys one other = other
-both_have Has (x ∷ xs) ys one other = (one.0, both_have Has xs ys one.1 other)
-
-map_have : {A B : Type 0} (Has : B → Type 0) (f : A → B) (xs : List A) → AllHave (λ x. Has (f x)) xs
+pub map_have : {A B : Type 0} (Has : B → Type 0) (f : A → B) (xs : List A) → AllHave (λ x. Has (f x)) xs
     → AllHave Has (map f xs)
 map_have Has f [] all = tt
 map_have Has f (x ∷ xs) all = (all.0, map_have Has f xs all.1)
@@ -148,7 +145,7 @@ module _ (types : TypeNames) (S E : List Text) (are : AreNumbered types S E) (ss
       → AreTold (λ _. IsStructureOf types) [] lines ss → AreTold (λ _. IsEnumerationOf types) [] others es
       → AreItems deps
   are_items lines others structures enumerations =
-      all_have (All (λ n. n < length deps)) deps (both_have (All (λ n. n < length deps)) (map fields_named ss)
+      all_have (All (λ n. n < length deps)) deps (all_append (All (λ n. n < length deps)) (map fields_named ss)
       (map cases_named es)
       (map_have (All (λ n. n < length deps)) fields_named ss
       (told_each (λ _. IsStructureOf types) (λ s. All (λ n. n < length deps) (fields_named s))
