@@ -4,7 +4,7 @@
 Of the forms in which z3 may be asked this is the fastest that was found: truth values for the bounds, in their order. With an
 integer in their place it takes up to ten times as long; with a sum of indicators, `at-least`, all pairs, or one band after
 another, longer still. Its general solver and its SAT solver are asked, and the sooner answer counts."""
-import random, shutil, subprocess, sys
+import datetime, random, shutil, subprocess, sys
 
 from measure_runs import compiled, measured
 
@@ -35,6 +35,14 @@ int main(int count, char **words) {
   printf("%%lld\\n", sum);
 }
 '''
+# Bands whose source is nearly as long as a file may be, and how the bounds of each type are written by their number.
+TYPED_BANDS = 32_768
+BOUNDS = {
+    'integer': '{}'.format,
+    'money': '${}.50'.format,
+    'decimal': '{}.125'.format,
+    'date': lambda number: '|%s|' % (datetime.date(1, 1, 1) + datetime.timedelta(days=100 * number)),
+}
 HEAD = ['```catala', 'declaration scope Bands:', '  input income content money', '  output rate content integer', 'scope Bands:']
 
 
@@ -124,6 +132,23 @@ def audits(folder, program):
                 print('%d bands: %r' % (count, reply[:100]), file=sys.stderr)
             told += of_z3(folder, made) if has_z3 else ['', '', '', '']
             print('| %d | %s | %s |' % (count, order, ' | '.join(told)), flush=True)
+
+
+def typed_bands(folder, program):
+    """Bands of each type whose values have an order, and the checks of their certificates."""
+    print('\n| Bands of | audit | memory | check | memory |\n|---|---|---|---|---|')
+    for of, bound in BOUNDS.items():
+        made = [(bound(k) if k else None, bound(k + 1) if k + 1 < TYPED_BANDS else None) for k in range(TYPED_BANDS)]
+        asked = [joined(band, ['income >= %s', 'income < %s'], ' and ') for band in made]
+        lines = ['  definition rate under condition %s consequence equals %d' % (text, k) for k, text in enumerate(asked)]
+        head = [line.replace('content money', 'content ' + of) for line in HEAD]
+        (folder / 'a.md').write_text('\n'.join([*head, *lines, '```', '']))
+        took, memory, audit = measured(folder, [program, 'audit', 'Bands', 'a.md'], most=MOST)
+        (folder / 'certificate').write_bytes(audit)
+        checked, most, reply = measured(folder, [program, 'check', 'Bands', 'a.md', 'certificate'], most=MOST)
+        print('| %s | %s | %s |' % (of, cells(took, memory), cells(checked, most)), flush=True)
+        if reply != b'Yes\n':
+            print('bands of %s: %r' % (of, reply[:100]), file=sys.stderr)
 
 
 def certificates(folder, program):
